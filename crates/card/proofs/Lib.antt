@@ -1,0 +1,2 @@
+pub mod PlayLemmas
+pub mod RecordLemmas

@@ -1,0 +1,4 @@
+pub mod Block
+pub mod Examples
+pub mod Records
+pub mod Tables
