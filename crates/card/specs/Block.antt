@@ -4,17 +4,17 @@ use mathlib.Core.Bool.{Bool}
 use mathlib.Core.List.{List}
 use lib.Dec.{ltb}
 use lib.ListN.{length}
-use Rattle.column.specs.Bools.{BoolsSound, boolsFormat, boolsList, boolsTakes}
+use Rattle.boolean.specs.Bools.{BoolsSound, boolsFormat, boolsList, boolsTakes}
 use Rattle.column.specs.Column.{Areas, cells, beside}
 use Rattle.column.specs.Element.{unsigned}
 use Rattle.column.specs.Kind.{Format}
-use Rattle.column.specs.Pair.{PairSound, pairFormat, pairList, pairTakes}
+use Rattle.tuple.specs.Pair.{PairSound, pairFormat, pairList, pairTakes}
 use Rattle.column.specs.Run.{RunSound, runFormat, runList, runTakes, wordRun}
-use Rattle.column.specs.Strides.{StridesSound, stridesFormat, stridesList, stridesTakes}
-use Rattle.column.specs.declared.bools.Bools.{Bools}
-use Rattle.column.specs.declared.pair.Pair.{Pair}
+use Rattle.offsets.specs.Strides.{StridesSound, stridesFormat, stridesList, stridesTakes}
+use Rattle.boolean.specs.declared.bools.Bools.{Bools}
+use Rattle.tuple.specs.declared.pair.Pair.{Pair}
 use Rattle.column.specs.declared.run.Run.{Run}
-use Rattle.column.specs.declared.strides.Strides.{Strides}
+use Rattle.offsets.specs.declared.strides.Strides.{Strides}
 use Rattle.card.specs.Records.{Block}
 
 abbrev pub blockFormat : Format Block

@@ -8,13 +8,13 @@ use Rattle.std.specs.shelf.Lists.{All}
 use Rattle.std.specs.declared.result.Result.{Result}
 use Rattle.std.specs.declared.result.Result.the-variants.{Ok, Err}
 use Rattle.area.specs.declared.fault.Fault.{Fault}
-use Rattle.column.specs.Bools.{boolsFormat, boolsTakes, bitsPushed}
+use Rattle.boolean.specs.Bools.{boolsFormat, boolsTakes, bitsPushed}
 use Rattle.column.specs.Column.{cells}
 use Rattle.column.specs.Element.{unsigned}
-use Rattle.column.specs.Empties.{emptiesFormat}
+use Rattle.tuple.specs.Empties.{emptiesFormat}
 use Rattle.column.specs.Kind.{Format}
 use Rattle.column.specs.Run.{runFormat, runTakes, wordRun}
-use Rattle.column.specs.Strides.{stridesFormat, boundsAt}
+use Rattle.offsets.specs.Strides.{stridesFormat, boundsAt}
 use Rattle.indexed.specs.Image.{image}
 
 pub record Example : Type 0 where

@@ -1,16 +1,7 @@
 pub mod AppendLemmas
-pub mod BitsLemmas
-pub mod BoolsLaws
-pub mod BoolsLemmas
 pub mod ColumnLemmas
-pub mod EmptiesLaws
-pub mod EmptiesLemmas
 pub mod KindLemmas
-pub mod PairLaws
-pub mod PairLemmas
 pub mod RunLaws
 pub mod RunLemmas
 pub mod SliceAt
-pub mod StridesLaws
-pub mod StridesLemmas
 pub mod WordLemmas

@@ -1,10 +1,4 @@
-pub mod Bools
 pub mod Column
 pub mod Element
-pub mod Empties
-pub mod Head
 pub mod Kind
-pub mod Pair
 pub mod Run
-pub mod Strides
-pub mod Tail

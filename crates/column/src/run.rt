@@ -3,6 +3,7 @@ ghost use Prim.Native.Nat.{ℕ, _*_, _≤_, _<_};
 ghost use mathlib.Core.Path.{_≡_};
 ghost use mathlib.Core.Bool.{true};
 ghost use mathlib.Core.List.{List, []};
+ghost use lib.Dec.{eqb};
 ghost use lib.ListN.{length, take, drop, getD};
 ghost use denote.Ref.{now};
 ghost use Rattle.area.specs.Digits.{number};
@@ -25,7 +26,7 @@ use crate::kind::MAX_WORDS;
 #[derive(Drop)]
 pub struct Run<'a, T: Value> {
     cells: &'a mut [T],
-    pub(crate) len: usize,
+    len: usize,
 }
 
 impl<'a, T: Element> Run<'a, T> {
@@ -36,6 +37,12 @@ impl<'a, T: Element> Run<'a, T> {
         ensures same { λ r. ⌜ now (r .cells) ≡ now (cells .entry) ⌝ }
     {
         Run { cells, len: 0 }
+    }
+
+    pub fn is_empty(&self) -> bool
+        ensures { λ r. ⌜ r ≡ eqb (now (self .entry) .len) 0 ⌝ }
+    {
+        self.len == 0
     }
 }
 

@@ -1,13 +1,13 @@
 // The worked examples of the format, run: each line is an image, or what a call answers.
 use area::fault::Fault;
 use column::append::append;
-use column::bools::*;
+use boolean::bools::*;
 use column::element::*;
-use column::empties::*;
+use tuple::empties::*;
 use column::kind::*;
-use column::pair::*;
+use tuple::pair::*;
 use column::run::*;
-use column::strides::*;
+use offsets::strides::*;
 use indexed::encode;
 use std::io;
 

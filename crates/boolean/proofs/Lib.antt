@@ -1,0 +1,3 @@
+pub mod BitsLemmas
+pub mod BoolsLaws
+pub mod BoolsLemmas

@@ -1,0 +1,3 @@
+// Bools: marks as bits of words.
+pub mod bools;
+pub mod tail;

@@ -1,7 +1,0 @@
--- At most L elements, so nothing saturates.
-use native.Mathlib.Omega.{arith}
-use Rattle.column.proofs.BoolsLemmas.{length-is}
-use Rattle.column.proofs.bools.BoolsIndex.len.Needs as need
-
-pub returns : need.returns
-returns g c = λ s. omega (arith, c .len .ensures (s .below), length-is (g .C·Index .list) (g .C·Index .sound) (c .args .self .now) s, s .short)

@@ -1,8 +1,0 @@
-use mathlib.Core.Path.{sym}
-use Rattle.column.specs.Column.{none}
-use Rattle.column.proofs.EmptiesLemmas.{empty-takes}
-use Rattle.column.proofs.empties.EmptiesColumn.takes.Needs as need
-
--- src/empties.rt:90:5
-pub returns : need.returns
-returns c = λ s. sym (empty-takes none (c .args .self .now .count) tt)

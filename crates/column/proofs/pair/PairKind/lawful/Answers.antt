@@ -1,6 +1,0 @@
-use Rattle.column.proofs.PairLaws.{pair-laws}
-use Rattle.column.proofs.pair.PairKind.lawful.Needs as need
-
--- src/pair.rt:91:5
-pub returns : need.returns
-returns g c = pair-laws (c .lawful .ensures) (c .lawful-2 .ensures)

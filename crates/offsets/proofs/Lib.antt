@@ -1,0 +1,2 @@
+pub mod StridesLaws
+pub mod StridesLemmas

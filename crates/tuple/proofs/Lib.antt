@@ -1,0 +1,4 @@
+pub mod EmptiesLaws
+pub mod EmptiesLemmas
+pub mod PairLaws
+pub mod PairLemmas

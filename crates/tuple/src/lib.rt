@@ -1,0 +1,3 @@
+// Elements that hold nothing, and pairs.
+pub mod empties;
+pub mod pair;
