@@ -31,17 +31,17 @@ pub digits-number : (b n : ℕ) (ds : List ℕ) → All (λ d. d < b) ds → len
 digits-number b n [] h l = rw sub-zero (digits-zero b n)
 digits-number b zero (d ∷ ds) h l = absurd (omega arith)
 digits-number b (suc n) (d ∷ ds) h l =
-  rw (low-digit b d (number b ds) (h .0), high-digits b d (number b ds) (h .0), suc-sub-suc) (ap (λ es. d ∷ es) (digits-number b n ds (h .1) (omega arith)))
+    rw (low-digit b d (number b ds) (h .0), high-digits b d (number b ds) (h .0), suc-sub-suc) (ap (λ es. d ∷ es) (digits-number b n ds (h .1) (omega arith)))
 
 pub digits-number-all : (b : ℕ) (ds : List ℕ) (n : ℕ) → All (λ d. d < b) ds → length ds ≡ n → digits b n (number b ds) ≡ ds
 digits-number-all b ds n h l =
-  let z : n - length ds ≡ 0 = omega arith in
-  digits-number b n ds h (omega arith) ∙ rw z (append-nil ds)
+    let z : n - length ds ≡ 0 = omega arith in
+    digits-number b n ds h (omega arith) ∙ rw z (append-nil ds)
 
 pub number-digits : (b n w : ℕ) → 0 < b → w < b ^ n → number b (digits b n w) ≡ w
 number-digits b zero w p h = omega (arith, pow-zero b)
 number-digits b (suc n) w p h =
-  rw (number-digits b n (w / b) p (div-below w b (b ^ n) p (rw pow-suc at h))) (mod-add-div w b)
+    rw (number-digits b n (w / b) p (div-below w b (b ^ n) p (rw pow-suc at h))) (mod-add-div w b)
 
 pub length-digits : (b n w : ℕ) → length (digits b n w) ≡ n
 length-digits b zero w = refl
@@ -54,7 +54,7 @@ digits-under b (suc n) w p = (mod-lt w p, digits-under b n (w / b) p)
 pub number-lt : (b : ℕ) (ds : List ℕ) → All (λ d. d < b) ds → number b ds < b ^ length ds
 number-lt b [] h = omega (arith, pow-zero b)
 number-lt b (d ∷ ds) h =
-  rw pow-suc (omega (arith, mul-comm b (number b ds), digits-lt (number-lt b ds (h .1)) (h .0)))
+    rw pow-suc (omega (arith, mul-comm b (number b ds), digits-lt (number-lt b ds (h .1)) (h .0)))
 
 -- past the end both sides are 0
 pub number-drop : (b j : ℕ) (ds : List ℕ) → number b (drop j ds) ≡ getD ds j 0 + b * number b (drop (suc j) ds)
@@ -81,8 +81,8 @@ module _ {X : Type 0} where
   pub all-chunks : (k n : ℕ) (xs : List X) → k * n ≤ length xs → All (λ c. length c ≡ k) (chunks k n xs)
   all-chunks k zero xs h = tt
   all-chunks k (suc n) xs h =
-    let l : k * n + k ≤ length xs = rw mul-suc at h in
-    (length-take-le k xs (omega arith), all-chunks k n (drop k xs) (simp length-drop (omega arith)))
+      let l : k * n + k ≤ length xs = rw mul-suc at h in
+      (length-take-le k xs (omega arith), all-chunks k n (drop k xs) (simp length-drop (omega arith)))
 
   pub all-in-chunks : (P : X → Type 0) (k n : ℕ) (xs : List X) → All P xs → All (All P) (chunks k n xs)
   all-in-chunks P k zero xs h = tt
@@ -105,7 +105,7 @@ module _ {X A : Type 0} (f : X → List A) where
   pub chunks-joined : (k : ℕ) (xs : List X) (ys : List A) → All (λ x. length (f x) ≡ k) xs → chunks k (length xs) (joined f xs ++ ys) ≡ map f xs
   chunks-joined k [] ys h = refl
   chunks-joined k (x ∷ xs) ys h =
-    rw (append-assoc, take-at (f x) (joined f xs ++ ys) k (h .0), drop-at (f x) (joined f xs ++ ys) k (h .0), chunks-joined k xs ys (h .1))
+      rw (append-assoc, take-at (f x) (joined f xs ++ ys) k (h .0), drop-at (f x) (joined f xs ++ ys) k (h .0), chunks-joined k xs ys (h .1))
 
   pub chunks-joined-all : (k : ℕ) (xs : List X) → All (λ x. length (f x) ≡ k) xs → chunks k (length xs) (joined f xs) ≡ map f xs
   chunks-joined-all k xs h = ap (chunks k (length xs)) (sym (append-nil (joined f xs))) ∙ chunks-joined k xs [] h
@@ -114,8 +114,8 @@ module _ {X A : Type 0} (f : X → List A) where
   getD-joined k [] i j d e h l m = absurd (omega arith)
   getD-joined k (x ∷ xs) zero j d e h l m = rw (mul-zero, zero-add) (getD-append-left (f x) (joined f xs) d j (omega (arith, h .0)))
   getD-joined k (x ∷ xs) (suc i) j d e h l m =
-    getD-append-right (f x) (joined f xs) k (k * suc i + j) d (h .0) (omega (arith, mul-suc k i))
-    ∙ (let q : k * suc i + j - k ≡ k * i + j = omega (arith, mul-suc k i) in rw q (getD-joined k xs i j d e (h .1) (omega arith) m))
+      getD-append-right (f x) (joined f xs) k (k * suc i + j) d (h .0) (omega (arith, mul-suc k i))
+      ∙ (let q : k * suc i + j - k ≡ k * i + j = omega (arith, mul-suc k i) in rw q (getD-joined k xs i j d e (h .1) (omega arith) m))
 
 -- what holds of everything holds of each element
 pub all-always : {X : Type 0} (P : X → Type 0) → ((x : X) → P x) → (xs : List X) → All P xs
@@ -134,28 +134,32 @@ all-joined P f (x ∷ xs) h = all-append P (f x) (joined f xs) (h .0) (all-joine
 pad-chunk : (k n : ℕ) (ds : List ℕ) → (take k ds ++ replicate (k - length (take k ds)) 0) ++ (drop k ds ++ replicate (k * n - length (drop k ds)) 0) ≡ ds ++ replicate (k * suc n - length ds) 0
 pad-chunk k n ds = ⊎-elim short whole (cases-lt (length ds) k)
   where
-  short : length ds < k → (take k ds ++ replicate (k - length (take k ds)) 0) ++ (drop k ds ++ replicate (k * n - length (drop k ds)) 0) ≡ ds ++ replicate (k * suc n - length ds) 0
-  short l = rw (take-all k ds (omega arith), drop-all k ds (omega arith), append-assoc, replicate-append-replicate) (ap (λ m. ds ++ replicate m 0) (omega (arith, mul-suc k n)))
-  whole : k ≤ length ds → (take k ds ++ replicate (k - length (take k ds)) 0) ++ (drop k ds ++ replicate (k * n - length (drop k ds)) 0) ≡ ds ++ replicate (k * suc n - length ds) 0
-  whole l =
-    rw (length-take-le k ds l, sub-self, append-nil, ← append-assoc (take k ds), take-append-drop, length-drop)
-      (ap (λ m. ds ++ replicate m 0) (omega (arith, mul-suc k n)))
+    short : length ds < k → (take k ds ++ replicate (k - length (take k ds)) 0) ++ (drop k ds ++ replicate (k * n - length (drop k ds)) 0) ≡ ds ++ replicate (k * suc n - length ds) 0
+    short l = rw (take-all k ds (omega arith), drop-all k ds (omega arith), append-assoc, replicate-append-replicate) (ap (λ m. ds ++ replicate m 0) (omega (arith, mul-suc k n)))
+
+    whole : k ≤ length ds → (take k ds ++ replicate (k - length (take k ds)) 0) ++ (drop k ds ++ replicate (k * n - length (drop k ds)) 0) ≡ ds ++ replicate (k * suc n - length ds) 0
+    whole l =
+        rw (length-take-le k ds l, sub-self, append-nil, ← append-assoc (take k ds), take-append-drop, length-drop)
+        (ap (λ m. ds ++ replicate m 0) (omega (arith, mul-suc k n)))
 
 -- Numbers of k digits each, for the digits of a list: zeros fill up the last.
 module _ (b k : ℕ) where
   pub joined-digits : (n : ℕ) (ds : List ℕ) → All (λ d. d < b) ds → length ds ≤ k * n → joined (digits b k) (map (number b) (chunks k n ds)) ≡ ds ++ replicate (k * n - length ds) 0
   joined-digits zero ds h l = rw (nil-from-length ds (omega (arith, mul-zero k)), mul-zero)
   joined-digits (suc n) ds h l =
-    rw (digits-number b k (take k ds) (all-take (λ d. d < b) k ds h) (simp length-take (omega arith)),
-        joined-digits n (drop k ds) (all-drop (λ d. d < b) k ds h) (simp length-drop (omega (arith, mul-suc k n))))
+      rw (
+        digits-number b k (take k ds) (all-take (λ d. d < b) k ds h) (simp length-take (omega arith)),
+        joined-digits n (drop k ds) (all-drop (λ d. d < b) k ds h) (simp length-drop (omega (arith, mul-suc k n))),
+      )
       (pad-chunk k n ds)
 
   pub chunks-under : (n : ℕ) (ds : List ℕ) → 0 < b → All (λ d. d < b) ds → All (λ w. w < b ^ k) (map (number b) (chunks k n ds))
   chunks-under zero ds p h = tt
   chunks-under (suc n) ds p h =
-    let l : length (take k ds) ≤ k = simp length-take (omega arith) in
-    (omega (arith, number-lt b (take k ds) (all-take (λ d. d < b) k ds h), pow-le-pow-right p l),
-     chunks-under n (drop k ds) p (all-drop (λ d. d < b) k ds h))
+      let l : length (take k ds) ≤ k = simp length-take (omega arith) in (
+        omega (arith, number-lt b (take k ds) (all-take (λ d. d < b) k ds h), pow-le-pow-right p l),
+        chunks-under n (drop k ds) p (all-drop (λ d. d < b) k ds h),
+      )
 
   map-digits : (ws : List ℕ) → 0 < b → All (λ w. w < b ^ k) ws → map (number b) (map (digits b k) ws) ≡ ws
   map-digits [] p h = refl

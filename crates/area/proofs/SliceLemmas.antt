@@ -35,14 +35,14 @@ ofBytes-formed bs h = (chunks-under 256 8 (wordsFor (length bs)) bs (lit< tt) h,
 
 pub ofBytes-padded : (bs : List ℕ) → All (λ b. b < 256) bs → ZeroPadded (ofBytes bs)
 ofBytes-padded bs h =
-  rw (spill-pack bs h, drop-at bs (replicate (8 * wordsFor (length bs) - length bs) 0) (length bs) refl)
+    rw (spill-pack bs h, drop-at bs (replicate (8 * wordsFor (length bs) - length bs) 0) (length bs) refl)
     (all-replicate (λ b. b ≡ 0) (8 * wordsFor (length bs) - length bs) 0 refl)
 
 -- words as bytes, and as words again
 pub pack-spill : (ws : List ℕ) → All (λ w. w < 2 ^ 64) ws → pack (spill ws) ≡ ws
 pack-spill ws h =
-  let n : wordsFor (length (spill ws)) ≡ length ws = omega (arith, length-spill ws) in
-  rw n (chunks-digits 256 8 ws (lit< tt) h)
+    let n : wordsFor (length (spill ws)) ≡ length ws = omega (arith, length-spill ws) in
+    rw n (chunks-digits 256 8 ws (lit< tt) h)
 
 pub ofBytes-spill : (ws : List ℕ) → All (λ w. w < 2 ^ 64) ws → ofBytes (spill ws) ≡ ofWords ws
 ofBytes-spill ws h = cc (pack-spill ws h, length-spill ws)

@@ -36,12 +36,13 @@ fromBits-append (x ∷ xs) ys = rw (pow-succ', mul-assoc) (omega (arith, fromBit
 cut : (n : ℕ) (xs : List Bool) → fromBits xs ≡ fromBits (drop n xs) * 2 ^ n + fromBits (take n xs)
 cut n xs = ⊎-elim short whole (cases-lt (length xs) n)
   where
-  short : length xs < n → fromBits xs ≡ fromBits (drop n xs) * 2 ^ n + fromBits (take n xs)
-  short l = rw (take-all n xs (omega arith), drop-all n xs (omega arith)) (omega arith)
-  whole : n ≤ length xs → fromBits xs ≡ fromBits (drop n xs) * 2 ^ n + fromBits (take n xs)
-  whole l =
-      ap fromBits (sym (take-append-drop n xs)) ∙ fromBits-append (take n xs) (drop n xs)
-      ∙ (rw (length-take-le n xs l) (omega (arith, mul-comm (2 ^ n) (fromBits (drop n xs)))))
+    short : length xs < n → fromBits xs ≡ fromBits (drop n xs) * 2 ^ n + fromBits (take n xs)
+    short l = rw (take-all n xs (omega arith), drop-all n xs (omega arith)) (omega arith)
+
+    whole : n ≤ length xs → fromBits xs ≡ fromBits (drop n xs) * 2 ^ n + fromBits (take n xs)
+    whole l =
+        ap fromBits (sym (take-append-drop n xs)) ∙ fromBits-append (take n xs) (drop n xs)
+        ∙ (rw (length-take-le n xs l) (omega (arith, mul-comm (2 ^ n) (fromBits (drop n xs)))))
 
 low : (n : ℕ) (xs : List Bool) → fromBits (take n xs) < 2 ^ n
 low n xs =
@@ -74,11 +75,11 @@ taken-room : (t : List Bool → Bool → Bool) → ((xs : List Bool) (x : Bool) 
 taken-room t f xs [] l = omega arith
 taken-room t f xs (y ∷ ys) l =
     cond-both (t xs y) (suc (taken t (xs ++ y ∷ []) ys)) 0 (λ k. length xs + k ≤ L)
-      (λ e.
-        let h = f xs y e in
-        let p = length-push xs y in
-        omega (arith, taken-room t f (xs ++ y ∷ []) ys (omega arith)))
-      (λ e. omega arith)
+    (λ e.
+    let h = f xs y e in
+    let p = length-push xs y in
+    omega (arith, taken-room t f (xs ++ y ∷ []) ys (omega arith)))
+    (λ e. omega arith)
 
 module _ (below : Areas → List ℕ → ℕ → Bool) (a : Areas) where
   takes-room : (xs : List Bool) (x : Bool) → boolsTakes below a xs x ≡ true → length xs < L
@@ -101,25 +102,25 @@ module _ (below : Areas → List ℕ → ℕ → Bool) (a : Areas) where
       let room = lt-ltb (length xs) L (omega arith) in
       let p = length-push xs y in
       ⊎-elim
-        (λ (k : length (rest xs) < 63).
-          let r = rest-more xs y k in
-          let s = ap length (r .1) ∙ length-push (rest xs) y in
-          rw (room, ne-eqb (length (rest xs)) 63 (omega arith))
-            (eqb·suc-suc (taken (boolsTakes below a) (xs ++ y ∷ []) ys) (length ys)
-              ∙ taken-word (xs ++ y ∷ []) ys (omega arith) (omega arith) (omega arith)
-              ∙ ap₂ (λ ws bs. below a ws (fromBits (take 64 (bs ++ ys)))) (r .0) (r .1)
-              ∙ ap (λ bs. below a (groups xs) (fromBits (take 64 bs))) (append-assoc (rest xs) (y ∷ []) ys)))
-        (λ (k : 63 ≤ length (rest xs)).
-          let e : length (rest xs) ≡ 63 = omega (arith, length-rest xs) in
-          let s = ap length (rest-full xs y e .1) in
-          let last = rest xs ++ y ∷ [] in
-          let word : take 64 (rest xs ++ y ∷ ys) ≡ last = ap (take 64) (sym (append-assoc (rest xs) (y ∷ []) ys)) ∙ take-at last ys 64 (omega (arith, length-push (rest xs) y)) in
-          let then = taken-short (xs ++ y ∷ []) ys (omega arith) (omega arith) in
-          rw (room, eq-eqb (length (rest xs)) 63 e, word, then)
-            (cond-both (below a (groups xs) (fromBits last)) (suc (length ys)) 0 (λ n. eqb n (suc (length ys)) ≡ below a (groups xs) (fromBits last))
-              (λ t. eq-eqb (suc (length ys)) (suc (length ys)) refl ∙ sym t)
-              (λ t. eqb·zero-suc (length ys) ∙ sym t)))
-        (cases-lt (length (rest xs)) 63)
+      (λ (k : length (rest xs) < 63).
+      let r = rest-more xs y k in
+      let s = ap length (r .1) ∙ length-push (rest xs) y in
+      rw (room, ne-eqb (length (rest xs)) 63 (omega arith))
+      (eqb·suc-suc (taken (boolsTakes below a) (xs ++ y ∷ []) ys) (length ys)
+      ∙ taken-word (xs ++ y ∷ []) ys (omega arith) (omega arith) (omega arith)
+      ∙ ap₂ (λ ws bs. below a ws (fromBits (take 64 (bs ++ ys)))) (r .0) (r .1)
+      ∙ ap (λ bs. below a (groups xs) (fromBits (take 64 bs))) (append-assoc (rest xs) (y ∷ []) ys)))
+      (λ (k : 63 ≤ length (rest xs)).
+      let e : length (rest xs) ≡ 63 = omega (arith, length-rest xs) in
+      let s = ap length (rest-full xs y e .1) in
+      let last = rest xs ++ y ∷ [] in
+      let word : take 64 (rest xs ++ y ∷ ys) ≡ last = ap (take 64) (sym (append-assoc (rest xs) (y ∷ []) ys)) ∙ take-at last ys 64 (omega (arith, length-push (rest xs) y)) in
+      let then = taken-short (xs ++ y ∷ []) ys (omega arith) (omega arith) in
+      rw (room, eq-eqb (length (rest xs)) 63 e, word, then)
+      (cond-both (below a (groups xs) (fromBits last)) (suc (length ys)) 0 (λ n. eqb n (suc (length ys)) ≡ below a (groups xs) (fromBits last))
+      (λ t. eq-eqb (suc (length ys)) (suc (length ys)) refl ∙ sym t)
+      (λ t. eqb·zero-suc (length ys) ∙ sym t)))
+      (cases-lt (length (rest xs)) 63)
 
 -- Words, and a tail of the n bits of w after them.
 pub record Kept (ws : List ℕ) (n w : ℕ) : Type 0 where
@@ -184,7 +185,7 @@ module _ {ws : List ℕ} {n w : ℕ} (k : Kept ws n w) where
     fromBits-both j e =
         fromBits-append (toBits n w) (take j (toBits m b))
         ∙ (rw (length-toBits n w, fromBits-toBits n w (k .clean), fromBits-take j (toBits m b), fromBits-toBits m b (g .under), or-shl w b n j e (k .clean))
-          (omega (arith, mul-comm (2 ^ n) (b % 2 ^ j))))
+        (omega (arith, mul-comm (2 ^ n) (b % 2 ^ j))))
 
     module _ (room : m ≤ L - length (heldBits ws n w)) where
       fits : length (heldBits ws n w) + m ≤ L
@@ -195,19 +196,19 @@ module _ {ws : List ℕ} {n w : ℕ} (k : Kept ws n w) where
       grown-below l =
           let bs = toBits n w ++ toBits m b in
           let number-is : fromBits bs ≡ filled w n b =
-                ap (λ ys. fromBits (toBits n w ++ ys)) (sym (take-all (64 - n) (toBits m b) (omega (arith, length-toBits m b)))) ∙ fromBits-both (64 - n) (omega arith) in
+          ap (λ ys. fromBits (toBits n w ++ ys)) (sym (take-all (64 - n) (toBits m b) (omega (arith, length-toBits m b)))) ∙ fromBits-both (64 - n) (omega arith) in
           let length-is : length bs ≡ n + m = length-append (toBits n w) (toBits m b) ∙ ap₂ (λ x y. x + y) (length-toBits n w) (length-toBits m b) in
-          record
-            { stays = record
-                { words = k .words
-                ; few = omega arith
-                ; clean = rw (number-is, length-is) at (fromBits-lt bs)
-                ; short = omega (arith, fits, length-held ws n w)
-                }
-            ; list =
+          record {
+            stays = record {
+              words = k .words;
+              few = omega arith;
+              clean = rw (number-is, length-is) at (fromBits-lt bs);
+              short = omega (arith, fits, length-held ws n w);
+            };
+            list =
                 ap (λ ys. joined (toBits 64) ws ++ ys) (toBits-is (n + m) (filled w n b) bs length-is number-is)
-                ∙ sym (append-assoc (joined (toBits 64) ws) (toBits n w) (toBits m b))
-            }
+                ∙ sym (append-assoc (joined (toBits 64) ws) (toBits n w) (toBits m b));
+          }
 
       -- a word is completed
       grown-above : (j : ℕ) → j + n ≡ 64 → j ≤ m → Grown (heldBits ws n w ++ toBits m b) (ws ++ filled w n b ∷ []) (m - j) (b / 2 ^ j)
@@ -219,18 +220,18 @@ module _ {ws : List ℕ} {n w : ℕ} (k : Kept ws n w) where
           let length-left : length (drop j new) ≡ m - j = length-drop j new ∙ ap (λ x. x - j) o in
           let number-left : fromBits (drop j new) ≡ b / 2 ^ j = fromBits-drop j new ∙ ap (λ x. x / 2 ^ j) (fromBits-toBits m b (g .under)) in
           let word : filled w n b < 2 ^ 64 = rw (fromBits-both j e, length-is) at (fromBits-lt bs) in
-          record
-            { stays = record
-                { words = all-append (λ x. x < 2 ^ 64) ws (filled w n b ∷ []) (k .words) (word, tt)
-                ; few = omega arith
-                ; clean = rw (number-left, length-left) at (fromBits-lt (drop j new))
-                ; short = omega (arith, fits, length-held ws n w, length-push ws (filled w n b))
-                }
-            ; list =
+          record {
+            stays = record {
+              words = all-append (λ x. x < 2 ^ 64) ws (filled w n b ∷ []) (k .words) (word, tt);
+              few = omega arith;
+              clean = rw (number-left, length-left) at (fromBits-lt (drop j new));
+              short = omega (arith, fits, length-held ws n w, length-push ws (filled w n b));
+            };
+            list =
                 ap₂ (λ v ys. joined (toBits 64) (ws ++ v ∷ []) ++ ys) (sym (fromBits-both j e)) (toBits-is (m - j) (b / 2 ^ j) (drop j new) length-left number-left)
                 ∙ ap (λ ys. ys ++ drop j new) (bits-more ws bs length-is)
-                ∙ simp append-assoc (ap (λ ys. joined (toBits 64) ws ++ (toBits n w ++ ys)) (take-append-drop j new))
-            }
+                ∙ simp append-assoc (ap (λ ys. joined (toBits 64) ws ++ (toBits n w ++ ys)) (take-append-drop j new));
+          }
 
       -- the same, as the code has it
       pub grown-short : n % 64 + m < 64 → Grown (heldBits ws n w ++ toBits m b) ws (n % 64 + m) (filled w (n % 64) b)
@@ -254,7 +255,7 @@ module _ {ws : List ℕ} {n w : ℕ} (k : Kept ws n w) where
       pub taken-none : L - length (heldBits ws n w) < m → all-taken ≡ false
       taken-none h =
           ne-eqb (taken (boolsTakes below a) (heldBits ws n w) (toBits m b)) m
-            (λ q. omega (arith, taken-room (boolsTakes below a) (takes-room below a) (heldBits ws n w) (toBits m b) (omega (arith, length-held ws n w))))
+          (λ q. omega (arith, taken-room (boolsTakes below a) (takes-room below a) (heldBits ws n w) (toBits m b) (omega (arith, length-held ws n w))))
 
       module _ (room : m ≤ L - length (heldBits ws n w)) where
         pub taken-all : n % 64 + m < 64 → all-taken ≡ true
@@ -301,7 +302,7 @@ module _ (j n w : ℕ) (few : n ≤ j) (clean : w < 2 ^ n) where
   word-of (v ∷ ws) words zero h = rw (mul-zero, pow-zero, div-one, first-word v ws (words .0)) (mod-low (written ws) j v (words .0))
   word-of (v ∷ ws) words (suc k) h =
       rw (first-word v ws (words .0), mul-suc, add-comm (j * k) j, ← shr-shr (written ws * 2 ^ j + v) j (j * k), shr-high (written ws) j v (words .0))
-        (word-of ws (words .1) k (omega arith))
+      (word-of ws (words .1) k (omega arith))
 
 module _ (r v : ℕ) (v-is : r % 2 ^ 64 ≡ v) (s k : ℕ) (e : s + k ≡ 64) where
   -- one word, shifted down by s
@@ -354,30 +355,30 @@ module _ {ws : List ℕ} {n w : ℕ} (k : Kept ws n w) (i m : ℕ) (h : i + m �
       let s = i % 64 in
       let one : from / 2 ^ s % 2 ^ (64 - s) ≡ x = one-word from v (first ∙ sym v-is) s (64 - s) (omega arith) ∙ sym x-is in
       let under : v < 2 ^ 64 = subst (λ y. y < 2 ^ 64) (first ∙ sym v-is) (mod-below from (2 ^ 64) (pow-pos 64)) in
-      record
-        { inside = h
-        ; word = omega (arith, shr-le v s)
-        ; bits = read (64 - s) (omega arith) ∙ ap (λ y. y % 2 ^ m) one
-        }
+      record {
+        inside = h;
+        word = omega (arith, shr-le v s);
+        bits = read (64 - s) (omega arith) ∙ ap (λ y. y % 2 ^ m) one;
+      }
 
   pub read-two : (v u x : ℕ) → v ≡ wordAt ws w (i / 64) → u ≡ wordAt ws w (i / 64 + 1) → x ≡ filled (v / 2 ^ (i % 64)) (64 - i % 64) u → 64 < i % 64 + m → m ≤ 64 → Reads (heldBits ws n w) i m x
   read-two v u x v-is u-is x-is l q =
       let s = i % 64 in
       let two : from / 2 ^ s % 2 ^ 64 ≡ x = two-words from v (first ∙ sym v-is) s (64 - s) (omega arith) u (second l ∙ sym u-is) ∙ sym x-is in
-      record
-        { inside = h
-        ; word = subst (λ y. y < 2 ^ 64) two (mod-below (from / 2 ^ s) (2 ^ 64) (pow-pos 64))
-        ; bits = read 64 q ∙ ap (λ y. y % 2 ^ m) two
-        }
+      record {
+        inside = h;
+        word = subst (λ y. y < 2 ^ 64) two (mod-below (from / 2 ^ s) (2 ^ 64) (pow-pos 64));
+        bits = read 64 q ∙ ap (λ y. y % 2 ^ m) two;
+      }
 
 -- the answer from such a number
 module _ {xs : List Bool} {i m x : ℕ} (r : Reads xs i m x) where
   pub masked : m < 64 → Ok (bitAnd x ((1 * 2 ^ m) % 2 ^ 64 - 1)) ≡ bitsAt xs i m
   masked l =
       rw (le-leb m 64 (omega arith), le-leb (i + m) (length xs) (r .inside))
-        (ap Ok (ap (λ p. bitAnd x (p - 1)) (one-shl m 64 l) ∙ and-mask x m ∙ sym (r .bits)))
+      (ap Ok (ap (λ p. bitAnd x (p - 1)) (one-shl m 64 l) ∙ and-mask x m ∙ sym (r .bits)))
 
   pub unmasked : m ≡ 64 → Ok x ≡ bitsAt xs i m
   unmasked q =
       rw (le-leb m 64 (omega arith), le-leb (i + m) (length xs) (r .inside))
-        (ap Ok (sym (r .bits ∙ ap (λ p. x % 2 ^ p) q ∙ mod-eq-of-lt (r .word))))
+      (ap Ok (sym (r .bits ∙ ap (λ p. x % 2 ^ p) q ∙ mod-eq-of-lt (r .word))))

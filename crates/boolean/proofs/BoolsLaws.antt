@@ -88,8 +88,8 @@ length-rest xs = omega (arith, length-drop (64 * (length xs / 64)) xs)
 pub groups-fit : (xs : List Bool) → every isWord (groups xs) ≡ true
 groups-fit xs =
     every-words (groups xs)
-      (all-map (λ w. w < 2 ^ 64) fromBits (chunks 64 (length xs / 64) xs)
-        (all-weaker (λ c. length c ≡ 64) (λ c. fromBits c < 2 ^ 64) (λ c h. fromBits-word c (omega arith)) (chunks 64 (length xs / 64) xs) (full xs)))
+    (all-map (λ w. w < 2 ^ 64) fromBits (chunks 64 (length xs / 64) xs)
+    (all-weaker (λ c. length c ≡ 64) (λ c. fromBits c < 2 ^ 64) (λ c h. fromBits-word c (omega arith)) (chunks 64 (length xs / 64) xs) (full xs)))
 
 pub all-64 : (ws : List ℕ) → All (λ w. length (toBits 64 w) ≡ 64) ws
 all-64 = all-always (λ w. length (toBits 64 w) ≡ 64) (length-toBits 64)
@@ -104,9 +104,10 @@ Stands xs ws bs = (groups xs ≡ ws) × (rest xs ≡ bs)
 pub unique : (xs : List Bool) (ws : List ℕ) (bs : List Bool) → xs ≡ joined (toBits 64) ws ++ bs → length bs ≤ 63 → All (λ w. w < 2 ^ 64) ws → Stands xs ws bs
 unique xs ws bs e l h =
     let ys = joined (toBits 64) ws in
-    let n : length xs / 64 ≡ length ws = omega (arith, ap length e, length-append ys bs, length-bits ws) in
-    ( ap₂ (λ m zs. map fromBits (chunks 64 m zs)) n e ∙ ap (map fromBits) (chunks-joined (toBits 64) 64 ws bs (all-64 ws)) ∙ words-back ws h
-    , ap₂ (λ m zs. drop (64 * m) zs) n e ∙ drop-at ys bs (64 * length ws) (length-bits ws))
+    let n : length xs / 64 ≡ length ws = omega (arith, ap length e, length-append ys bs, length-bits ws) in (
+      ap₂ (λ m zs. map fromBits (chunks 64 m zs)) n e ∙ ap (map fromBits) (chunks-joined (toBits 64) 64 ws bs (all-64 ws)) ∙ words-back ws h,
+      ap₂ (λ m zs. drop (64 * m) zs) n e ∙ drop-at ys bs (64 * length ws) (length-bits ws),
+    )
 
 -- one more element
 split-push : (xs : List Bool) (x : Bool) → xs ++ x ∷ [] ≡ joined (toBits 64) (groups xs) ++ (rest xs ++ x ∷ [])
@@ -115,9 +116,9 @@ split-push xs x = ap (λ ys. ys ++ x ∷ []) (split xs) ∙ append-assoc (joined
 pub rest-more : (xs : List Bool) (x : Bool) → length (rest xs) < 63 → Stands (xs ++ x ∷ []) (groups xs) (rest xs ++ x ∷ [])
 rest-more xs x h =
     unique (xs ++ x ∷ []) (groups xs) (rest xs ++ x ∷ [])
-      (split-push xs x)
-      (omega (arith, length-push (rest xs) x))
-      (all-words (groups xs) (groups-fit xs))
+    (split-push xs x)
+    (omega (arith, length-push (rest xs) x))
+    (all-words (groups xs) (groups-fit xs))
 
 -- a full rest is one more word
 pub bits-more : (ws : List ℕ) (bs : List Bool) → length bs ≡ 64 → joined (toBits 64) (ws ++ fromBits bs ∷ []) ≡ joined (toBits 64) ws ++ bs
@@ -129,9 +130,9 @@ rest-full xs x h =
     let last = rest xs ++ x ∷ [] in
     let whole : length last ≡ 64 = omega (arith, length-push (rest xs) x) in
     unique (xs ++ x ∷ []) (groups xs ++ fromBits last ∷ []) []
-      (split-push xs x ∙ sym (append-nil (joined (toBits 64) (groups xs ++ fromBits last ∷ [])) ∙ bits-more (groups xs) last whole))
-      (omega arith)
-      (all-append (λ w. w < 2 ^ 64) (groups xs) (fromBits last ∷ []) (all-words (groups xs) (groups-fit xs)) (fromBits-word last (omega arith), tt))
+    (split-push xs x ∙ sym (append-nil (joined (toBits 64) (groups xs ++ fromBits last ∷ [])) ∙ bits-more (groups xs) last whole))
+    (omega arith)
+    (all-append (λ w. w < 2 ^ 64) (groups xs) (fromBits last ∷ []) (all-words (groups xs) (groups-fit xs)) (fromBits-word last (omega arith), tt))
 
 pub every-true : (xs : List Bool) → every (λ (_ : Bool). true) xs ≡ true
 every-true [] = refl
@@ -159,10 +160,11 @@ module _ (W : Format ℕ) (laws : Laws isWord W) where
   shape : (xs : List Bool) → length xs ≤ L → (length (boolsFormat W .writing xs) ≡ W .slots + 1) × All WellFormed (boolsFormat W .writing xs) × All ZeroPadded (boolsFormat W .writing xs)
   shape xs h =
       let g = laws .shape (groups xs) (held-groups xs h) in
-      let r = length-rest xs in
-      ( length-push (W .writing (groups xs)) (tail xs) ∙ ap (λ n. n + 1) (g .0)
-      , all-append WellFormed (W .writing (groups xs)) (tail xs ∷ []) (g .1) (((fromBits-word (rest xs) (omega arith), (omega arith, tt)), refl), tt)
-      , all-append ZeroPadded (W .writing (groups xs)) (tail xs ∷ []) (g .2) (tt, tt))
+      let r = length-rest xs in (
+        length-push (W .writing (groups xs)) (tail xs) ∙ ap (λ n. n + 1) (g .0),
+        all-append WellFormed (W .writing (groups xs)) (tail xs ∷ []) (g .1) (((fromBits-word (rest xs) (omega arith), (omega arith, tt)), refl), tt),
+        all-append ZeroPadded (W .writing (groups xs)) (tail xs ∷ []) (g .2) (tt, tt),
+      )
 
   return : (xs : List Bool) → length xs ≤ L → (boolsFormat W .sized (boolsFormat W .writing xs) ≡ None) × (boolsFormat W .reading (boolsFormat W .writing xs) ≡ reads xs)
   return xs h =
@@ -194,16 +196,16 @@ module _ (W : Format ℕ) (laws : Laws isWord W) where
       let t = and-parts (leb (wordOf s 1) 63) (leb (64 * length (r .0) + wordOf s 1) L) (b .0) in
       let l = length-toBits (wordOf s 1) (wordOf s 0) in
       let cut : ss ≡ take n ss ++ s ∷ [] = sym (take-all (n + 1) ss (omega (arith, a .count))) ∙ take-more ss n (record { words = []; bytes = 0 }) (omega (arith, a .count)) in
-      record
-        { ws = r .0
-        ; bs = toBits (wordOf s 1) (wordOf s 0)
-        ; heavy = omega (arith, ap weight cut, weight-append (take n ss) (s ∷ []))
-        ; least = least-words 2 n s (f .1)
-        ; below = record { count = length-take-le n ss (omega (arith, a .count)); formed = all-take WellFormed n ss (a .formed); fitting = f .0; reading = r .1 }
-        ; few = omega (arith, leb-true (wordOf s 1) 63 (t .0))
-        ; short = omega (arith, leb-true (64 * length (r .0) + wordOf s 1) L (t .1))
-        ; is = sym (b .1)
-        }
+      record {
+        ws = r .0;
+        bs = toBits (wordOf s 1) (wordOf s 0);
+        heavy = omega (arith, ap weight cut, weight-append (take n ss) (s ∷ []));
+        least = least-words 2 n s (f .1);
+        below = record { count = length-take-le n ss (omega (arith, a .count)); formed = all-take WellFormed n ss (a .formed); fitting = f .0; reading = r .1 };
+        few = omega (arith, leb-true (wordOf s 1) 63 (t .0));
+        short = omega (arith, leb-true (64 * length (r .0) + wordOf s 1) L (t .1));
+        is = sym (b .1);
+      }
 
   sound : (ss : List Slice) (xs : List Bool) → Accepted (boolsFormat W) ss xs → length xs ≤ L
   sound ss xs a =
@@ -215,18 +217,19 @@ module _ (W : Format ℕ) (laws : Laws isWord W) where
       let p = parts ss xs a in
       let h = laws .sound (take (W .slots) ss) (p .ws) (p .below) in
       let u = unique xs (p .ws) (p .bs) (p .is) (p .few) (all-words (p .ws) (h .0)) in
-      omega
-        ( arith
-        , p .heavy
-        , p .least
-        , laws .least (take (W .slots) ss) (p .ws) (p .below)
-        , ap (λ ws. weight (W .writing ws)) (u .0)
-        , weight-append (W .writing (groups xs)) (tail xs ∷ []))
+      omega (
+        arith,
+        p .heavy,
+        p .least,
+        laws .least (take (W .slots) ss) (p .ws) (p .below),
+        ap (λ ws. weight (W .writing ws)) (u .0),
+        weight-append (W .writing (groups xs)) (tail xs ∷ []),
+      )
 
   pub bools-laws : Laws (λ (_ : Bool). true) (boolsFormat W)
-  bools-laws = record
-    { shape = λ xs h. shape xs (h .1)
-    ; return = λ xs h. return xs (h .1)
-    ; sound = λ ss xs a. (every-true xs, sound ss xs a)
-    ; least = least
-    }
+  bools-laws = record {
+    shape = λ xs h. shape xs (h .1);
+    return = λ xs h. return xs (h .1);
+    sound = λ ss xs a. (every-true xs, sound ss xs a);
+    least = least;
+  }

@@ -27,12 +27,10 @@ use Rattle.column.specs.Kind.{L, every}
 use Rattle.boolean.specs.Tail.{TailKept}
 use Rattle.boolean.specs.declared.bools.Bools.{Bools}
 use Rattle.boolean.specs.declared.tail.Tail.{Tail}
+use Rattle.boolean.proofs.BitsLemmas.{fromBits-append, length-held}
 use Rattle.boolean.proofs.BoolsLaws.{length-toBits, toBits-fromBits, fromBits-toBits, fromBits-lt, all-64, length-bits, Stands, unique}
 use Rattle.column.proofs.ColumnLemmas.{element-at, every-append}
 use Rattle.column.proofs.WordLemmas.{isWord, all-words}
-
-pub length-held : (ws : List ℕ) (n w : ℕ) → length (heldBits ws n w) ≡ 64 * length ws + n
-length-held ws n w = length-append (joined (toBits 64) ws) (toBits n w) ∙ ap₂ _+_ (length-bits ws) (length-toBits n w)
 
 -- the slice of a kept tail
 pub tail-formed : (t : Tail) → TailKept t → WellFormed (tailSlice (t .word) (t .count))
@@ -68,20 +66,22 @@ getD-toBits n w j h =
 getD-held : (ws : List ℕ) (n w i : ℕ) → n ≤ 63 → i < 64 * length ws + n → getD (heldBits ws n w) i false ≡ bitOf (wordAt ws w (i / 64)) (i % 64)
 getD-held ws n w i few h = ⊎-elim grouped tailed (cases-lt i (64 * length ws))
   where
-  xs : List Bool
-  xs = joined (toBits 64) ws
-  grouped : i < 64 * length ws → getD (heldBits ws n w) i false ≡ bitOf (wordAt ws w (i / 64)) (i % 64)
-  grouped l =
-      getD-append-left xs (toBits n w) false i (omega (arith, length-bits ws))
-      ∙ ap (λ k. getD xs k false) (omega arith)
-      ∙ getD-joined (toBits 64) 64 ws (i / 64) (i % 64) false w (all-64 ws) (omega arith) (omega arith)
-      ∙ getD-toBits 64 (wordAt ws w (i / 64)) (i % 64) (omega arith)
-  tailed : 64 * length ws ≤ i → getD (heldBits ws n w) i false ≡ bitOf (wordAt ws w (i / 64)) (i % 64)
-  tailed l =
-      getD-append-right xs (toBits n w) (64 * length ws) i false (length-bits ws) l
-      ∙ ap (λ k. getD (toBits n w) k false) (omega arith)
-      ∙ getD-toBits n w (i % 64) (omega arith)
-      ∙ ap (λ v. bitOf v (i % 64)) (sym (getD-past ws (i / 64) w (omega arith)))
+    xs : List Bool
+    xs = joined (toBits 64) ws
+
+    grouped : i < 64 * length ws → getD (heldBits ws n w) i false ≡ bitOf (wordAt ws w (i / 64)) (i % 64)
+    grouped l =
+        getD-append-left xs (toBits n w) false i (omega (arith, length-bits ws))
+        ∙ ap (λ k. getD xs k false) (omega arith)
+        ∙ getD-joined (toBits 64) 64 ws (i / 64) (i % 64) false w (all-64 ws) (omega arith) (omega arith)
+        ∙ getD-toBits 64 (wordAt ws w (i / 64)) (i % 64) (omega arith)
+
+    tailed : 64 * length ws ≤ i → getD (heldBits ws n w) i false ≡ bitOf (wordAt ws w (i / 64)) (i % 64)
+    tailed l =
+        getD-append-right xs (toBits n w) (64 * length ws) i false (length-bits ws) l
+        ∙ ap (λ k. getD (toBits n w) k false) (omega arith)
+        ∙ getD-toBits n w (i % 64) (omega arith)
+        ∙ ap (λ v. bitOf v (i % 64)) (sym (getD-past ws (i / 64) w (omega arith)))
 
 pub element-held : (ws : List ℕ) (n w i : ℕ) → n ≤ 63 → i < 64 * length ws + n → Ok (bitOf (wordAt ws w (i / 64)) (i % 64)) ≡ element (heldBits ws n w) i
 element-held ws n w i few h = sym (element-at (heldBits ws n w) i false (omega (arith, length-held ws n w)) ∙ ap Ok (getD-held ws n w i few h))
@@ -89,14 +89,6 @@ element-held ws n w i few h = sym (element-at (heldBits ws n w) i false (omega (
 -- the word of n bits with one more
 abbrev pub fill : ℕ → ℕ → Bool → ℕ
 fill n w x = bitOr w (boolByte x * 2 ^ n % 2 ^ 64)
-
-number-append : (b : ℕ) (xs ys : List ℕ) → number b (xs ++ ys) ≡ number b xs + b ^ length xs * number b ys
-number-append b [] ys = rw pow-zero (omega arith)
-number-append b (x ∷ xs) ys = rw (number-append b xs ys, pow-succ', mul-add, mul-assoc) (omega arith)
-
-fromBits-append : (xs ys : List Bool) → fromBits (xs ++ ys) ≡ fromBits xs + 2 ^ length xs * fromBits ys
-fromBits-append xs ys =
-    ap (number 2) (map-append bit xs ys) ∙ number-append 2 (map bit xs) (map bit ys) ∙ ap (λ k. fromBits xs + 2 ^ k * fromBits ys) (length-map xs bit)
 
 byte-bit : (x : Bool) → fromBits (x ∷ []) ≡ boolByte x
 byte-bit true = refl
@@ -115,8 +107,8 @@ module _ (n w : ℕ) (x : Bool) (few : n ≤ 63) (clean : w < 2 ^ n) where
       ∙ or-shifted b n w clean
       ∙ omega (arith, mul-comm b (2 ^ n))
       ∙ sym
-          ( fromBits-append (toBits n w) (x ∷ [])
-          ∙ ap₂ _+_ (fromBits-toBits n w clean) (ap₂ (λ k d. 2 ^ k * d) (length-toBits n w) (byte-bit x)))
+      (fromBits-append (toBits n w) (x ∷ [])
+      ∙ ap₂ _+_ (fromBits-toBits n w clean) (ap₂ (λ k d. 2 ^ k * d) (length-toBits n w) (byte-bit x)))
 
   length-more : length (toBits n w ++ x ∷ []) ≡ n + 1
   length-more = length-push (toBits n w) x ∙ ap (λ k. k + 1) (length-toBits n w)
@@ -195,28 +187,28 @@ module _ {C : Type 0} (f : C → List ℕ) (sound : C → Type 0) (c : Bools C) 
       let w = c .tail .word in
       ap₂ (λ b d. b && cond d (t a (groups xs) (fromBits (rest xs ++ x ∷ []))) true) (lt-ltb (length xs) L room) (eq-eqb (length (rest xs)) 63 (omega (arith, few)))
       ∙ ap₂ (t a) (groups-is f sound c s)
-          (ap (λ bs. fromBits (bs ++ x ∷ [])) (rest-is f sound c s ∙ ap (λ k. toBits k w) (sym e)) ∙ sym (fill-bits n w x few clean))
+      (ap (λ bs. fromBits (bs ++ x ∷ [])) (rest-is f sound c s ∙ ap (λ k. toBits k w) (sym e)) ∙ sym (fill-bits n w x few clean))
 
   -- in the tail
   pub sound-few : n < 63 → BoolsSound f sound (record { values = c .values; tail = record { word = fill n (c .tail .word) x; count = n + 1 } })
-  sound-few h = record
-    { below = s .below
-    ; tail = record { few = omega arith; clean = fill-lt n (c .tail .word) x few clean }
-    ; words = s .words
-    ; short = omega (arith, length-is f sound c s)
-    }
+  sound-few h = record {
+    below = s .below;
+    tail = record { few = omega arith; clean = fill-lt n (c .tail .word) x few clean };
+    words = s .words;
+    short = omega (arith, length-is f sound c s);
+  }
 
   pub list-few : heldBits (f (c .values)) (n + 1) (fill n (c .tail .word) x) ≡ boolsList f c ++ x ∷ []
   list-few = held-more n (c .tail .word) x few clean (f (c .values)) ∙ same-list
 
   -- in the column below, which then is v
   pub sound-full : (v : C) → sound v → isWord (fill n (c .tail .word) x) ≡ true → f v ≡ f (c .values) ++ fill n (c .tail .word) x ∷ [] → 63 ≤ n → BoolsSound f sound (record { values = v; tail = record { word = 0; count = 0 } })
-  sound-full v i w l h = record
-    { below = i
-    ; tail = record { few = omega arith; clean = omega arith }
-    ; words = ap (every isWord) l ∙ every-append isWord (f (c .values)) (fill n (c .tail .word) x ∷ []) (s .words) (and-from (isWord (fill n (c .tail .word) x)) true w refl)
-    ; short = omega (arith, ap length l, length-push (f (c .values)) (fill n (c .tail .word) x), length-is f sound c s)
-    }
+  sound-full v i w l h = record {
+    below = i;
+    tail = record { few = omega arith; clean = omega arith };
+    words = ap (every isWord) l ∙ every-append isWord (f (c .values)) (fill n (c .tail .word) x ∷ []) (s .words) (and-from (isWord (fill n (c .tail .word) x)) true w refl);
+    short = omega (arith, ap length l, length-push (f (c .values)) (fill n (c .tail .word) x), length-is f sound c s);
+  }
 
   pub list-full : (v : C) → f v ≡ f (c .values) ++ fill n (c .tail .word) x ∷ [] → 63 ≤ n → heldBits (f v) 0 0 ≡ boolsList f c ++ x ∷ []
   list-full v l h = ap (λ ws. heldBits ws 0 0) l ∙ held-full n (c .tail .word) x few clean (f (c .values)) (omega (arith, few)) ∙ same-list

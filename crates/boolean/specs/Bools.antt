@@ -48,15 +48,15 @@ wordAt ws w k = getD ws k w
 
 -- bools whose words are of the kind W
 abbrev pub boolsFormat : Format ℕ → Format Bool
-boolsFormat W = record
-  { slots = W .slots + 1
-  ; writing = λ xs. W .writing (groups xs) ++ tailSlice (fromBits (rest xs)) (length (rest xs)) ∷ []
-  ; sized = λ ss. firstOf (W .sized (take (W .slots) ss)) (leastWords 2 (W .slots) (slot ss (W .slots)))
-  ; reading = λ ss. after 0 (W .reading (take (W .slots) ss)) (λ ws.
+boolsFormat W = record {
+  slots = W .slots + 1;
+  writing = λ xs. W .writing (groups xs) ++ tailSlice (fromBits (rest xs)) (length (rest xs)) ∷ [];
+  sized = λ ss. firstOf (W .sized (take (W .slots) ss)) (leastWords 2 (W .slots) (slot ss (W .slots)));
+  reading = λ ss. after 0 (W .reading (take (W .slots) ss)) (λ ws.
       let w = wordOf (slot ss (W .slots)) 0 in
       let n = wordOf (slot ss (W .slots)) 1 in
-      inBounds (leb n 63 && leb (64 * length ws + n) L) (heldBits ws n w))
-  }
+      inBounds (leb n 63 && leb (64 * length ws + n) L) (heldBits ws n w));
+}
 
 -- an element that completes a word is taken exactly when the column below takes that word
 abbrev pub boolsTakes : (Areas → List ℕ → ℕ → Bool) → Areas → List Bool → Bool → Bool

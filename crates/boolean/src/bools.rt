@@ -2,6 +2,7 @@
 ghost use mathlib.Core.Path.{_≡_};
 ghost use mathlib.Core.List.{List, [], _∷_, _++_};
 ghost use Rattle.boolean.specs.Bools.{BoolsSound, boolsList, tailSlice, wordAt, boolsFormat, boolsTakes, bitsAt, bitsGiven, bitsPushed, pushBitsAnswer};
+use crate::tail::Tail;
 use area::fault::Fault;
 use area::fault::Refusal;
 use column::element::BoolValue;
@@ -11,7 +12,6 @@ use column::kind::Index;
 use column::kind::Kind;
 use column::kind::MAX_LEN;
 use column::kind::MAX_WORDS;
-use crate::tail::Tail;
 
 #[derive(Drop)]
 pub struct Bools<C> {
@@ -37,7 +37,10 @@ impl<C: Column<Elem = u64>> Bools<C> {
         ensures same { λ r. ⌜ (C·Index .sound values → C·Column .areas (r .values) ≡ C·Column .areas values) ⌝ }
     {
         values.clear();
-        Bools { values, tail: Tail { word: 0, count: 0 } }
+        Bools {
+            values,
+            tail: Tail { word: 0, count: 0 },
+        }
     }
 
     // Puts the `count` lowest bits of `bits` at the end, the lowest first: all of them or none. 11 where `count` is
@@ -59,12 +62,18 @@ impl<C: Column<Elem = u64>> Bools<C> {
         let total = valid + count as u64;
         let filled = word | bits << valid;
         if total < 64 {
-            self.tail = Tail { word: filled, count: total };
+            self.tail = Tail {
+                word: filled,
+                count: total,
+            };
             return Ok(());
         }
         self.values.push(filled)?;
         let rest = if valid == 0 { 0 } else { bits >> (64 - valid) };
-        self.tail = Tail { word: rest, count: total - 64 };
+        self.tail = Tail {
+            word: rest,
+            count: total - 64,
+        };
         Ok(())
     }
 }
@@ -116,7 +125,10 @@ pub impl<C: Index<Item = u64>> Index for Bools<C> as BoolsIndex {
     ghost list = { λ c. boolsList (C·Index .list) c };
 
     fn len(&self) -> usize {
-        self.values.len().saturating_mul(64).saturating_add(self.tail.count as usize)
+        self.values
+            .len()
+            .saturating_mul(64)
+            .saturating_add(self.tail.count as usize)
     }
 
     fn get(&self, i: usize) -> Result<bool, Fault> {
@@ -153,7 +165,11 @@ pub impl<C: AsBytes + Index<Item = u64>> AsBytes for Bools<C> as BoolsAsBytes {
         if k > n || k >= MAX_WORDS || i > 1 {
             return Err(Fault::at_start(Refusal::OutOfRange));
         }
-        Ok(if i == 0 { self.tail.word } else { self.tail.count })
+        Ok(if i == 0 {
+            self.tail.word
+        } else {
+            self.tail.count
+        })
     }
 }
 
@@ -198,7 +214,10 @@ pub impl<C: Column<Elem = u64>> Column for Bools<C> as BoolsColumn {
         let count = held % 64;
         let filled = word | (x as u64) << count;
         if count < 63 {
-            self.tail = Tail { word: filled, count: count + 1 };
+            self.tail = Tail {
+                word: filled,
+                count: count + 1,
+            };
             return Ok(());
         }
         self.values.push(filled)?;

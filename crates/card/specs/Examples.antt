@@ -31,21 +31,21 @@ twoOf (Err f) = []
 
 abbrev pub examples : List Example
 examples =
-  -- multiples of 3, and then a bound
-  record { given = imageOf (stridesFormat wordRun) (3 ∷ 6 ∷ 9 ∷ 10 ∷ []); wanted = 24 ∷ 40 ∷ 48 ∷ 3 ∷ 3 ∷ 10 ∷ [] } ∷
-  record { given = twoOf (boundsAt (3 ∷ 6 ∷ 9 ∷ 10 ∷ []) 3); wanted = 9 ∷ 10 ∷ [] } ∷
-  -- multiples of 0
-  record { given = imageOf (stridesFormat wordRun) (0 ∷ 0 ∷ 0 ∷ []); wanted = 24 ∷ 40 ∷ 40 ∷ 0 ∷ 3 ∷ [] } ∷
-  -- twice 2^63 is no word, so 0 does not continue the front
-  record { given = imageOf (stridesFormat wordRun) (2 ^ 63 ∷ 0 ∷ []); wanted = 24 ∷ 40 ∷ 48 ∷ 2 ^ 63 ∷ 1 ∷ 0 ∷ [] } ∷
-  -- 62 times false, and then three bits that complete a word
-  record { given = imageOf (boolsFormat wordRun) (bitsPushed (boolsTakes runTakes (cells 1)) (replicate 62 false) 7 3); wanted = 24 ∷ 32 ∷ 48 ∷ 0xC000000000000000 ∷ 1 ∷ 1 ∷ [] } ∷
-  -- three bytes, and zeros after them
-  record { given = imageOf (runFormat (unsigned 1)) (1 ∷ 2 ∷ 3 ∷ []); wanted = 16 ∷ 19 ∷ 0x030201 ∷ [] } ∷
-  record { given = imageOf emptiesFormat (replicate 7 tt); wanted = 16 ∷ 24 ∷ 7 ∷ [] } ∷
-  -- two words of zeros, as multiples of 0
-  record { given = imageOf (boolsFormat (stridesFormat wordRun)) (replicate 128 false); wanted = 32 ∷ 48 ∷ 48 ∷ 64 ∷ 0 ∷ 2 ∷ 0 ∷ 0 ∷ [] } ∷
-  []
+    -- multiples of 3, and then a bound
+    record { given = imageOf (stridesFormat wordRun) (3 ∷ 6 ∷ 9 ∷ 10 ∷ []); wanted = 24 ∷ 40 ∷ 48 ∷ 3 ∷ 3 ∷ 10 ∷ [] } ∷
+    record { given = twoOf (boundsAt (3 ∷ 6 ∷ 9 ∷ 10 ∷ []) 3); wanted = 9 ∷ 10 ∷ [] } ∷
+    -- multiples of 0
+    record { given = imageOf (stridesFormat wordRun) (0 ∷ 0 ∷ 0 ∷ []); wanted = 24 ∷ 40 ∷ 40 ∷ 0 ∷ 3 ∷ [] } ∷
+    -- twice 2^63 is no word, so 0 does not continue the front
+    record { given = imageOf (stridesFormat wordRun) (2 ^ 63 ∷ 0 ∷ []); wanted = 24 ∷ 40 ∷ 48 ∷ 2 ^ 63 ∷ 1 ∷ 0 ∷ [] } ∷
+    -- 62 times false, and then three bits that complete a word
+    record { given = imageOf (boolsFormat wordRun) (bitsPushed (boolsTakes runTakes (cells 1)) (replicate 62 false) 7 3); wanted = 24 ∷ 32 ∷ 48 ∷ 0xC000000000000000 ∷ 1 ∷ 1 ∷ [] } ∷
+    -- three bytes, and zeros after them
+    record { given = imageOf (runFormat (unsigned 1)) (1 ∷ 2 ∷ 3 ∷ []); wanted = 16 ∷ 19 ∷ 0x030201 ∷ [] } ∷
+    record { given = imageOf emptiesFormat (replicate 7 tt); wanted = 16 ∷ 24 ∷ 7 ∷ [] } ∷
+    -- two words of zeros, as multiples of 0
+    record { given = imageOf (boolsFormat (stridesFormat wordRun)) (replicate 128 false); wanted = 32 ∷ 48 ∷ 48 ∷ 64 ∷ 0 ∷ 2 ∷ 0 ∷ 0 ∷ [] } ∷
+    []
 
 abbrev pub ExamplesHold : Type 0
 ExamplesHold = All (λ e. e .given ≡ e .wanted) examples

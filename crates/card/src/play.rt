@@ -8,22 +8,26 @@ ghost use Rattle.column.specs.Kind.{Accepted as AcceptedBy};
 ghost use Rattle.card.specs.Block.{BlockSound, blockAreas, blockFormat, blockList, blockTakes};
 ghost use Rattle.card.specs.Records.{records};
 ghost use Rattle.card.specs.Tables.{after, answer, imageLines, listAfter, linesOf};
-use boolean::bools::*;
-use column::element::*;
-use column::kind::*;
-use tuple::pair::*;
-use column::run::*;
-use offsets::strides::*;
-use indexed::encode;
 use crate::block::BlockTable;
 use crate::line::Line;
 use crate::record::Record;
 use crate::record::read_record;
 use crate::record::record_size;
+use boolean::bools::*;
+use column::element::*;
+use column::kind::*;
+use column::run::*;
+use indexed::encode;
+use offsets::strides::*;
 use std::alloc::AllocError;
+use tuple::pair::*;
 
 // Adds the lines of the table's image, which is written to `area`, or of its refusal.
-fn image_lines<C: Column>(table: &C, area: &mut [u64], lines: &mut Vec<Line>) -> Result<(), AllocError>
+fn image_lines<C: Column>(
+    table: &C,
+    area: &mut [u64],
+    lines: &mut Vec<Line>,
+) -> Result<(), AllocError>
     ensures { λ r. ⌜ (C·Index .sound (now (table .entry)) → made r (λ _. vec-items (now (lines .exit)) ≡ vec-items (now (lines .entry)) ++ imageLines (C·AsBytes .slices (now (table .entry))) (now (area .entry)) (length (C·Index .list (now (table .entry)))))) ⌝ }
 {
     match encode(table, area, 0) {
@@ -39,7 +43,12 @@ fn image_lines<C: Column>(table: &C, area: &mut [u64], lines: &mut Vec<Line>) ->
 }
 
 // Answers one record: the table after it, and the lines that it adds.
-pub fn step<C: Column>(table: &mut C, item: Record<C::Elem>, area: &mut [u64], lines: &mut Vec<Line>) -> Result<(), AllocError>
+pub fn step<C: Column>(
+    table: &mut C,
+    item: Record<C::Elem>,
+    area: &mut [u64],
+    lines: &mut Vec<Line>,
+) -> Result<(), AllocError>
     ensures keeps { λ _. ⌜ (C·Index .sound (now (table .entry)) → C·Index .sound (now (table .exit))) ⌝ }
     ensures same { λ _. ⌜ (C·Index .sound (now (table .entry)) → C·Column .areas (now (table .exit)) ≡ C·Column .areas (now (table .entry))) ⌝ }
     ensures after { λ _. ⌜ (C·Index .sound (now (table .entry)) → C·Index .list (now (table .exit)) ≡ after (C·Column .takes (C·Column .areas (now (table .entry)))) (C·Kind .format .writing) (now (area .entry)) (C·Index .list (now (table .entry))) item) ⌝ }
@@ -63,7 +72,12 @@ pub fn step<C: Column>(table: &mut C, item: Record<C::Elem>, area: &mut [u64], l
 }
 
 // Answers the records of an input one after the other. What is no record is refused with 17 and ends the reading.
-pub fn play(table: &mut BlockTable<'_>, input: &[u8], area: &mut [u64], lines: &mut Vec<Line>) -> Result<(), AllocError>
+pub fn play(
+    table: &mut BlockTable<'_>,
+    input: &[u8],
+    area: &mut [u64],
+    lines: &mut Vec<Line>,
+) -> Result<(), AllocError>
     ensures keeps { λ _. ⌜ (BlockSound (now (table .entry)) → BlockSound (now (table .exit))) ⌝ }
     ensures after { λ r. ⌜ (BlockSound (now (table .entry)) → made r (λ _. blockList (now (table .exit)) ≡ listAfter (blockTakes (blockAreas (now (table .entry)))) (blockFormat .writing) (now (area .entry)) (blockList (now (table .entry))) (records (now (input .entry))))) ⌝ }
     ensures lines { λ r. ⌜ (BlockSound (now (table .entry)) → made r (λ _. vec-items (now (lines .exit)) ≡ vec-items (now (lines .entry)) ++ linesOf (blockTakes (blockAreas (now (table .entry)))) (blockFormat .writing) (now (area .entry)) (blockList (now (table .entry))) (records (now (input .entry))))) ⌝ }

@@ -62,14 +62,14 @@ module _ {E : Type 0} (t : List E → E → Bool) where
   taken-rest xs ys zero h = rw (zero-add, append-nil)
   taken-rest xs [] (suc n) h = absurd (omega arith)
   taken-rest xs (y ∷ ys) (suc n) h =
-    let p = first-taken (t xs y) n (taken t (xs ++ y ∷ []) ys) h in
-    let q = rw append-assoc at (taken-rest (xs ++ y ∷ []) ys n (p .1)) in
-    rw (p .0) (omega (arith, q))
+      let p = first-taken (t xs y) n (taken t (xs ++ y ∷ []) ys) h in
+      let q = rw append-assoc at (taken-rest (xs ++ y ∷ []) ys n (p .1)) in
+      rw (p .0) (omega (arith, q))
 
   taken-next : (xs ys : List E) (n : ℕ) (y : E) → element ys n ≡ Ok y → n ≤ taken t xs ys → taken t xs ys ≡ n + cond (t (xs ++ take n ys) y) (suc (taken t ((xs ++ take n ys) ++ y ∷ []) (drop (n + 1) ys))) 0
   taken-next xs ys n y e h =
-    let q = element-there ys n y e in
-    taken-rest xs ys n h ∙ rw (drop-more ys n y (q .0), q .1)
+      let q = element-there ys n y e in
+      taken-rest xs ys n h ∙ rw (drop-more ys n y (q .0), q .1)
 
 -- The list zs is xs with the elements at places a to i - 1 of a source put after it, each of them taken. No place is
 -- at or past b.
@@ -94,25 +94,28 @@ module _ {E : Type 0} (f : Areas → List E → E → Bool) (A : Areas) (xs src 
 
       pub added-more : isErr r ≡ false → Added (f A) xs src a b (i + 1) us
       added-more k =
-        let w : f A zs y ≡ true = not-false (f A zs y) (sym answered ∙ k) in
-        let d : i + 1 - a ≡ i - a + 1 = omega arith in
-        let o = element-there (between a b src) (i - a) y there in
-        rw d
-          ( rw (take-more (between a b src) (i - a) y (o .0), o .1, ← append-assoc, ← p .0) (u ∙ rw (s, w))
-          , omega (arith, rw w at next) )
+          let w : f A zs y ≡ true = not-false (f A zs y) (sym answered ∙ k) in
+          let d : i + 1 - a ≡ i - a + 1 = omega arith in
+          let o = element-there (between a b src) (i - a) y there in
+          rw d (
+            rw (take-more (between a b src) (i - a) y (o .0), o .1, ← append-assoc, ← p .0) (u ∙ rw (s, w)),
+            omega (arith, rw w at next),
+          )
 
       pub added-stopped : isErr r ≡ true → (Err (refuse NotTaken (i - a)) ≡ rangeAnswer (f A) xs src a b) × (us ≡ rangeAppended (f A) xs src a b)
       added-stopped k =
-        let w : f A zs y ≡ false = not-true (f A zs y) (sym answered ∙ k) in
-        let n : taken (f A) xs (between a b src) ≡ i - a = omega (arith, rw w at next) in
-        let o = element-there (between a b src) (i - a) y there in
-        rw (le-leb b (length src) l, n)
-          ( rw (ne-eqb (i - a) (length (between a b src)) (λ g. omega (arith, o .0)))
-          , u ∙ rw (s, w) (p .0) )
+          let w : f A zs y ≡ false = not-true (f A zs y) (sym answered ∙ k) in
+          let n : taken (f A) xs (between a b src) ≡ i - a = omega (arith, rw w at next) in
+          let o = element-there (between a b src) (i - a) y there in
+          rw (le-leb b (length src) l, n) (
+            rw (ne-eqb (i - a) (length (between a b src)) (λ g. omega (arith, o .0))),
+            u ∙ rw (s, w) (p .0),
+          )
 
     pub added-all : b ≤ i → (Ok tt ≡ rangeAnswer (f A) xs src a b) × (zs ≡ rangeAppended (f A) xs src a b)
     added-all m =
-      let n : taken (f A) xs (between a b src) ≡ length (between a b src) = omega (arith, taken-le (f A) xs (between a b src), length-between src a b l) in
-      rw (le-leb b (length src) l, n)
-        ( rw (eq-eqb (length (between a b src)) (length (between a b src)) refl)
-        , rw (take-all (length (between a b src)) (between a b src) (omega arith)) (rw (take-all (i - a) (between a b src) (omega (arith, length-between src a b l))) at (p .0)) )
+        let n : taken (f A) xs (between a b src) ≡ length (between a b src) = omega (arith, taken-le (f A) xs (between a b src), length-between src a b l) in
+        rw (le-leb b (length src) l, n) (
+          rw (eq-eqb (length (between a b src)) (length (between a b src)) refl),
+          rw (take-all (length (between a b src)) (between a b src) (omega arith)) (rw (take-all (i - a) (between a b src) (omega (arith, length-between src a b l))) at (p .0)),
+        )

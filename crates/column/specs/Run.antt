@@ -19,12 +19,12 @@ abbrev pub elements : {E : Type 0} → Codec E → Slice → List E
 elements C s = map (C .value) (chunks (C .size) (s .bytes / C .size) (contents s))
 
 abbrev pub runFormat : {E : Type 0} → Codec E → Format E
-runFormat C = record
-  { slots = 1
-  ; writing = λ xs. ofBytes (joined (C .bytes) xs) ∷ []
-  ; sized = λ ss. cond (eqb (slot ss 0 .bytes % C .size) 0) None (Some 0)
-  ; reading = λ ss. inBounds (leb (slot ss 0 .bytes / C .size) L) (elements C (slot ss 0))
-  }
+runFormat C = record {
+  slots = 1;
+  writing = λ xs. ofBytes (joined (C .bytes) xs) ∷ [];
+  sized = λ ss. cond (eqb (slot ss 0 .bytes % C .size) 0) None (Some 0);
+  reading = λ ss. inBounds (leb (slot ss 0 .bytes / C .size) L) (elements C (slot ss 0));
+}
 
 -- a run of words
 abbrev pub wordRun : Format ℕ

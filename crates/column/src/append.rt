@@ -7,14 +7,19 @@ ghost use lib.ListN.{length};
 ghost use Rattle.std.specs.Holes.{between};
 ghost use Rattle.column.specs.Kind.{every};
 ghost use Rattle.column.specs.Column.{rangeAnswer, rangeAppended};
-use area::fault::Fault;
-use area::fault::Refusal;
 use crate::kind::Column;
 use crate::kind::Index;
+use area::fault::Fault;
+use area::fault::Refusal;
 
 // Puts the source's elements at places `a` to `b` - 1 at the end, up to the first that is not taken: 12 then carries
 // how many were added. 10 where `b` is past the source's end.
-pub fn append<C: Column, R: Index<Item = C::Elem>>(dst: &mut C, src: &R, a: usize, b: usize) -> Result<(), Fault>
+pub fn append<C: Column, R: Index<Item = C::Elem>>(
+    dst: &mut C,
+    src: &R,
+    a: usize,
+    b: usize,
+) -> Result<(), Fault>
     ensures keeps { λ _. ⌜ (C·Index .sound (now (dst .entry)) → C·Index .sound (now (dst .exit))) ⌝ }
     ensures answer { λ r. ⌜ (C·Index .sound (now (dst .entry)) → R·Index .sound (now (src .entry)) → r ≡ rangeAnswer (C·Column .takes (C·Column .areas (now (dst .entry)))) (C·Index .list (now (dst .entry))) (R·Index .list (now (src .entry))) a b) ⌝ }
     ensures after { λ _. ⌜ (C·Index .sound (now (dst .entry)) → R·Index .sound (now (src .entry)) → C·Index .list (now (dst .exit)) ≡ rangeAppended (C·Column .takes (C·Column .areas (now (dst .entry)))) (C·Index .list (now (dst .entry))) (R·Index .list (now (src .entry))) a b) ⌝ }

@@ -75,7 +75,7 @@ pub impl Element for u64 as U64Element {
     ghost codec = { unsigned 8 };
 
     fn size() -> usize {
-        8
+        (u64::BITS / 8) as usize
     }
 
     fn byte(self, j: usize) -> u8 {
@@ -90,7 +90,7 @@ pub impl Element for u8 as U8Element {
     ghost codec = { unsigned 1 };
 
     fn size() -> usize {
-        1
+        (u8::BITS / 8) as usize
     }
 
     fn byte(self, j: usize) -> u8 {

@@ -8,8 +8,8 @@ ghost use Rattle.std.specs.shelf.Lists.{All};
 ghost use Rattle.area.specs.Slice.{Slice, WellFormed};
 ghost use Rattle.column.specs.Kind.{Format, Laws, Held, CAP};
 ghost use Rattle.column.specs.Column.{Areas, element, pushAnswer, pushed, sliceLength, sliceWord};
-use area::fault::Fault;
 use crate::element::Value;
+use area::fault::Fault;
 
 // No column holds more elements.
 pub const MAX_LEN: usize = 4_294_967_295;

@@ -11,8 +11,6 @@ ghost use Rattle.std.specs.Joined.{joined};
 ghost use Rattle.column.specs.Kind.{L, CAP, every};
 ghost use Rattle.column.specs.Column.{cells as areaOf};
 ghost use Rattle.column.specs.Run.{runFormat, runTakes, runList, RunSound};
-use area::fault::Fault;
-use area::fault::Refusal;
 use crate::element::Element;
 use crate::element::Value;
 use crate::kind::AsBytes;
@@ -21,6 +19,8 @@ use crate::kind::Index;
 use crate::kind::Kind;
 use crate::kind::MAX_LEN;
 use crate::kind::MAX_WORDS;
+use area::fault::Fault;
+use area::fault::Refusal;
 
 // The list is the first `len` cells.
 #[derive(Drop)]

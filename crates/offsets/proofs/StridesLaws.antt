@@ -37,8 +37,8 @@ goesOn-split : (s k : ℕ) (xs : List ℕ) → xs ≡ map (λ j. s * j) (countin
 goesOn-split s k [] = refl
 goesOn-split s k (x ∷ xs) =
     cond-both (eqb x (s * k)) (suc (goesOn s (k + 1) xs)) 0 (λ n. x ∷ xs ≡ map (λ j. s * j) (counting k n) ++ drop n (x ∷ xs))
-      (λ e. ap₂ _∷_ (eqb-true x (s * k) e) (goesOn-split s (k + 1) xs))
-      (λ e. refl)
+    (λ e. ap₂ _∷_ (eqb-true x (s * k) e) (goesOn-split s (k + 1) xs))
+    (λ e. refl)
 
 goesOn-le : (s k : ℕ) (xs : List ℕ) → goesOn s k xs ≤ length xs
 goesOn-le s k [] = omega arith
@@ -73,7 +73,7 @@ stride-append (x ∷ xs) ys h = refl
 front-append : (xs ys : List ℕ) → 0 < length xs → front (xs ++ ys) ≡ front xs + goesOn (stride xs) (front xs + 1) (bounds xs ++ ys)
 front-append xs ys h =
     front-run (xs ++ ys) (stride xs) (front xs) (bounds xs ++ ys) (stride-append xs ys h)
-      (ap (λ zs. zs ++ ys) (split xs) ∙ append-assoc (multiples (stride xs) (front xs)) (bounds xs) ys)
+    (ap (λ zs. zs ++ ys) (split xs) ∙ append-assoc (multiples (stride xs) (front xs)) (bounds xs) ys)
 
 -- the bounds do not go on where the front ends
 bounds-start : (xs : List ℕ) → goesOn (stride xs) (front xs + 1) (bounds xs) ≡ 0
@@ -106,9 +106,9 @@ goesOn-push s k (b ∷ bs) x h e = goesOn-head s k (b ∷ bs) (x ∷ []) (omega 
 pub front-more : (xs : List ℕ) (x : ℕ) → 0 < length xs → length (bounds xs) ≡ 0 → x ≡ stride xs * (front xs + 1) → Stands (xs ++ x ∷ []) (stride xs) (front xs + 1) []
 front-more xs x h b e =
     let n : front (xs ++ x ∷ []) ≡ front xs + 1 =
-        front-append xs (x ∷ []) h
-        ∙ ap (λ bs. front xs + goesOn (stride xs) (front xs + 1) (bs ++ x ∷ [])) (nil-from-length (bounds xs) b)
-        ∙ ap (λ m. front xs + m) (goesOn-one (stride xs) (front xs + 1) x e) in
+    front-append xs (x ∷ []) h
+    ∙ ap (λ bs. front xs + goesOn (stride xs) (front xs + 1) (bs ++ x ∷ [])) (nil-from-length (bounds xs) b)
+    ∙ ap (λ m. front xs + m) (goesOn-one (stride xs) (front xs + 1) x e) in
     (stride-append xs (x ∷ []) h, n, nil-from-length (bounds (xs ++ x ∷ [])) (omega (arith, length-bounds xs, length-bounds (xs ++ x ∷ []), length-append xs (x ∷ []))))
 
 -- of a list whose front stays
@@ -131,13 +131,14 @@ product (x ∷ xs) h = last (front (x ∷ xs)) (front-positive x xs) (split (x �
   where
     ys : List ℕ
     ys = x ∷ xs
+
     last : (n : ℕ) → 1 ≤ n → ys ≡ multiples x n ++ bounds ys → n ≤ length ys → x * n < 2 ^ 64
     last zero l e u = absurd (omega arith)
     last (suc n) l e u =
         let at : getD ys n 0 ≡ x * (n + 1) =
-            ap (λ zs. getD zs n 0) e
-            ∙ getD-append-left (multiples x (suc n)) (bounds ys) 0 n (omega (arith, length-multiples x (suc n)))
-            ∙ getD-multiples x (suc n) n 0 (omega arith) in
+        ap (λ zs. getD zs n 0) e
+        ∙ getD-append-left (multiples x (suc n)) (bounds ys) 0 n (omega (arith, length-multiples x (suc n)))
+        ∙ getD-multiples x (suc n) n 0 (omega arith) in
         let up : n + 1 ≡ suc n = omega arith in
         rw (at, up) at (all-getD (λ y. y < 2 ^ 64) ys n 0 u (all-words ys h))
 
@@ -145,8 +146,8 @@ product (x ∷ xs) h = last (front (x ∷ xs)) (front-positive x xs) (split (x �
 multiples-fit : (s n : ℕ) → s * n < 2 ^ 64 → All (λ x. x < 2 ^ 64) (multiples s n)
 multiples-fit s n h =
     all-from-getD (λ x. x < 2 ^ 64) (multiples s n) 0
-      (λ i l. let m : i + 1 ≤ n = omega (arith, length-multiples s n) in
-        omega (arith, getD-multiples s n i 0 (omega arith), mul-le-mul-left s m))
+    (λ i l. let m : i + 1 ≤ n = omega (arith, length-multiples s n) in
+    omega (arith, getD-multiples s n i 0 (omega arith), mul-le-mul-left s m))
 
 stride-fits : (xs : List ℕ) → every isWord xs ≡ true → stride xs < 2 ^ 64
 stride-fits [] h = omega arith
@@ -160,9 +161,10 @@ reads-back xs h =
 
 module _ (B : Format ℕ) (laws : Laws isWord B) (heavy : (ys : List ℕ) → Held isWord ys → weight (B .writing ys) ≡ length ys) where
   held-bounds : (xs : List ℕ) → Held isWord xs → Held isWord (bounds xs)
-  held-bounds xs h =
-      (every-words (bounds xs) (all-drop (λ x. x < 2 ^ 64) (front xs) xs (all-words xs (h .0)))
-      , omega (arith, length-bounds xs, h .1))
+  held-bounds xs h = (
+    every-words (bounds xs) (all-drop (λ x. x < 2 ^ 64) (front xs) xs (all-words xs (h .0))),
+    omega (arith, length-bounds xs, h .1),
+  )
 
   -- what an accepted reading consists of
   record Parts (s : Slice) (ss : List Slice) (xs : List ℕ) : Type 0 where
@@ -179,14 +181,14 @@ module _ (B : Format ℕ) (laws : Laws isWord B) (heavy : (ys : List ℕ) → He
       let r = after-reads 1 (B .reading ss) _ xs (a .reading) in
       let b = in-bounds _ _ xs (r .2) in
       let t = and-parts (ltb (wordOf s 0 * wordOf s 1) (2 ^ 64)) (leb (wordOf s 1 + length (r .0)) L) (b .0) in
-      record
-        { bs = r .0
-        ; least = least-words 2 0 s (f .0)
-        ; below = record { count = omega (arith, a .count); formed = a .formed .1; fitting = f .1; reading = r .1 }
-        ; fits = ltb-true (wordOf s 0 * wordOf s 1) (2 ^ 64) (t .0)
-        ; short = leb-true (wordOf s 1 + length (r .0)) L (t .1)
-        ; is = sym (b .1)
-        }
+      record {
+        bs = r .0;
+        least = least-words 2 0 s (f .0);
+        below = record { count = omega (arith, a .count); formed = a .formed .1; fitting = f .1; reading = r .1 };
+        fits = ltb-true (wordOf s 0 * wordOf s 1) (2 ^ 64) (t .0);
+        short = leb-true (wordOf s 1 + length (r .0)) L (t .1);
+        is = sym (b .1);
+      }
 
   sound : (ss : List Slice) (xs : List ℕ) → Accepted (stridesFormat B) ss xs → Held isWord xs
   sound [] xs a = absurd (omega (arith, a .count))
@@ -194,38 +196,42 @@ module _ (B : Format ℕ) (laws : Laws isWord B) (heavy : (ys : List ℕ) → He
       let p = parts s ss xs a in
       let ms = multiples (wordOf s 0) (wordOf s 1) in
       let h = laws .sound ss (p .bs) (p .below) in
-      rw (p .is)
-        ( every-words (ms ++ p .bs) (all-append (λ x. x < 2 ^ 64) ms (p .bs) (multiples-fit (wordOf s 0) (wordOf s 1) (p .fits)) (all-words (p .bs) (h .0)))
-        , omega (arith, length-append ms (p .bs), length-multiples (wordOf s 0) (wordOf s 1), p .short))
+      rw (p .is) (
+        every-words (ms ++ p .bs) (all-append (λ x. x < 2 ^ 64) ms (p .bs) (multiples-fit (wordOf s 0) (wordOf s 1) (p .fits)) (all-words (p .bs) (h .0))),
+        omega (arith, length-append ms (p .bs), length-multiples (wordOf s 0) (wordOf s 1), p .short),
+      )
 
   least : (ss : List Slice) (xs : List ℕ) → Accepted (stridesFormat B) ss xs → weight (stridesFormat B .writing xs) ≤ weight ss
   least [] xs a = absurd (omega (arith, a .count))
   least (s ∷ ss) xs a =
       let p = parts s ss xs a in
       let ms = multiples (wordOf s 0) (wordOf s 1) in
-      omega
-        ( arith
-        , p .least
-        , laws .least ss (p .bs) (p .below)
-        , heavy (p .bs) (laws .sound ss (p .bs) (p .below))
-        , heavy (bounds xs) (held-bounds xs (sound (s ∷ ss) xs a))
-        , front-multiples xs (wordOf s 0) (wordOf s 1) (p .bs) (p .is)
-        , length-bounds xs
-        , ap length (p .is)
-        , length-append ms (p .bs)
-        , length-multiples (wordOf s 0) (wordOf s 1))
+      omega (
+        arith,
+        p .least,
+        laws .least ss (p .bs) (p .below),
+        heavy (p .bs) (laws .sound ss (p .bs) (p .below)),
+        heavy (bounds xs) (held-bounds xs (sound (s ∷ ss) xs a)),
+        front-multiples xs (wordOf s 0) (wordOf s 1) (p .bs) (p .is),
+        length-bounds xs,
+        ap length (p .is),
+        length-append ms (p .bs),
+        length-multiples (wordOf s 0) (wordOf s 1),
+      )
 
   pub strides-laws : Laws isWord (stridesFormat B)
-  strides-laws = record
-    { shape = λ xs h.
-        let b = laws .shape (bounds xs) (held-bounds xs h) in
-        ( ap suc (b .0)
-        , (((stride-fits xs (h .0), (omega (arith, front-le xs, h .1), tt)), refl), b .1)
-        , (tt, b .2))
-    ; return = λ xs h.
-        let b = laws .return (bounds xs) (held-bounds xs h) in
-        ( ap (further 1) (b .0)
-        , rw (b .1) (reads-back xs h))
-    ; sound = sound
-    ; least = least
-    }
+  strides-laws = record {
+    shape = λ xs h.
+        let b = laws .shape (bounds xs) (held-bounds xs h) in (
+          ap suc (b .0),
+          (((stride-fits xs (h .0), (omega (arith, front-le xs, h .1), tt)), refl), b .1),
+          (tt, b .2),
+        );
+    return = λ xs h.
+        let b = laws .return (bounds xs) (held-bounds xs h) in (
+          ap (further 1) (b .0),
+          rw (b .1) (reads-back xs h),
+        );
+    sound = sound;
+    least = least;
+  }

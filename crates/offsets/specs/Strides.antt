@@ -33,15 +33,15 @@ bounds xs = drop (front xs) xs
 
 -- strides whose bounds are of the kind B
 abbrev pub stridesFormat : Format ℕ → Format ℕ
-stridesFormat B = record
-  { slots = suc (B .slots)
-  ; writing = λ xs. ofWords (stride xs ∷ front xs ∷ []) ∷ B .writing (bounds xs)
-  ; sized = λ ss. firstOf (leastWords 2 0 (slot ss 0)) (further 1 (B .sized (drop 1 ss)))
-  ; reading = λ ss. after 1 (B .reading (drop 1 ss)) (λ bs.
+stridesFormat B = record {
+  slots = suc (B .slots);
+  writing = λ xs. ofWords (stride xs ∷ front xs ∷ []) ∷ B .writing (bounds xs);
+  sized = λ ss. firstOf (leastWords 2 0 (slot ss 0)) (further 1 (B .sized (drop 1 ss)));
+  reading = λ ss. after 1 (B .reading (drop 1 ss)) (λ bs.
       let s = wordOf (slot ss 0) 0 in
       let n = wordOf (slot ss 0) 1 in
-      inBounds (ltb (s * n) (2 ^ 64) && leb (n + length bs) L) (multiples s n ++ bs))
-  }
+      inBounds (ltb (s * n) (2 ^ 64) && leb (n + length bs) L) (multiples s n ++ bs));
+}
 
 -- an element is taken that needs no new bound, or that the run of bounds takes
 abbrev pub stridesTakes : Areas → List ℕ → ℕ → Bool

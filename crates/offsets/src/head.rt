@@ -10,6 +10,16 @@ pub struct Head {
 }
 
 impl Head {
+    // The head of an empty list.
+    pub(crate) fn none() -> Head
+        ensures { λ r. ⌜ r ≡ record { stride = 0; length = 0 } ⌝ }
+    {
+        Head {
+            stride: 0,
+            length: 0,
+        }
+    }
+
     // The multiple after those that the head stands for, or none past 2^64 - 1.
     pub(crate) fn next(self) -> Option<u64>
         ensures { λ r. ⌜ r ≡ nextMultiple (self .stride) (self .length) ⌝ }

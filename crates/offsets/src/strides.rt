@@ -11,9 +11,12 @@ ghost use Rattle.column.specs.Column.{cells as areaOf};
 ghost use Rattle.offsets.specs.Head.{isNext};
 ghost use Rattle.column.specs.Run.{RunSound, wordRun};
 ghost use Rattle.offsets.specs.Strides.{StridesSound, stridesList, stridesFormat, stridesTakes, boundsAt};
+use crate::head::Head;
 use area::fault::Fault;
 use area::fault::Refusal;
-use crate::head::Head;
+use column::element::U64Element;
+use column::element::U64Value;
+use column::element::Value;
 use column::kind::AsBytes;
 use column::kind::Column;
 use column::kind::Index;
@@ -24,9 +27,6 @@ use column::run::RunAsBytes;
 use column::run::RunColumn;
 use column::run::RunIndex;
 use column::run::RunKind;
-use column::element::U64Element;
-use column::element::U64Value;
-use column::element::Value;
 
 #[derive(Drop)]
 pub struct Strides<'a> {
@@ -42,7 +42,10 @@ impl<'a> Strides<'a> {
         ensures same { λ r. ⌜ (RunSound (λ x. ltb x (2 ^ 64)) (bounds .entry) → length (now (r .bounds .cells)) ≡ length (now (bounds .entry .cells))) ⌝ }
     {
         bounds.clear();
-        Strides { head: Head { stride: 0, length: 0 }, bounds }
+        Strides {
+            head: Head::none(),
+            bounds,
+        }
     }
 
     // Whether the head can stand for `x` too.
@@ -130,8 +133,7 @@ pub impl<'a> Kind for Strides<'a> as StridesKind {
 
     fn lawful()
         ensures { λ _. ⌜ Laws (λ x. ltb x (2 ^ 64)) (stridesFormat wordRun) ⌝ }
-    {
-    }
+    {}
 }
 
 pub impl<'a> Column for Strides<'a> as StridesColumn {
@@ -151,19 +153,25 @@ pub impl<'a> Column for Strides<'a> as StridesColumn {
             return Err(Fault::at_start(Refusal::NotTaken));
         }
         if self.head.length == 0 {
-            self.head = Head { stride: x, length: 1 };
+            self.head = Head {
+                stride: x,
+                length: 1,
+            };
             return Ok(());
         }
         if self.continues(x) {
             let Head { stride, length } = self.head;
-            self.head = Head { stride, length: length + 1 };
+            self.head = Head {
+                stride,
+                length: length + 1,
+            };
             return Ok(());
         }
         self.bounds.push(x)
     }
 
     fn clear(&mut self) {
-        self.head = Head { stride: 0, length: 0 };
+        self.head = Head::none();
         self.bounds.clear();
     }
 }

@@ -1,18 +1,18 @@
 // Reads records from standard input into a block table, and prints a line for each.
+use boolean::bools::*;
 use card::block::block_table;
 use card::line::Line;
 use card::line::LineDisplay;
 use card::play::play;
-use boolean::bools::*;
 use column::element::*;
 use column::kind::*;
-use tuple::pair::*;
 use column::run::*;
 use offsets::strides::*;
 use std::error::AnyError;
 use std::io::BufWriter;
 use std::io::Read;
 use std::io::Write;
+use tuple::pair::*;
 
 fn main(rt: LibcRuntime) -> Result<(), AnyError> {
     let heap = rt.alloc();

@@ -22,10 +22,11 @@ replicate-unit (x ∷ xs) = ap (λ ys. tt ∷ ys) (replicate-unit xs)
 sound : (ss : List Slice) (xs : List (Unit {0})) → Accepted emptiesFormat ss xs → Held (λ (_ : Unit {0}). true) xs
 sound [] xs a = absurd (omega arith)
 sound (s ∷ []) xs a =
-  let n : ℕ = wordOf s 0 in
-  let r = in-bounds (leb n L) (replicate n tt) xs (a .reading) in
-  ( every-empty xs
-  , rw (← r .1, length-replicate) (leb-true n L (r .0)) )
+    let n : ℕ = wordOf s 0 in
+    let r = in-bounds (leb n L) (replicate n tt) xs (a .reading) in (
+      every-empty xs,
+      rw (← r .1, length-replicate) (leb-true n L (r .0)),
+    )
 sound (s ∷ t ∷ ss) xs a = absurd (omega arith)
 
 least : (ss : List Slice) (xs : List (Unit {0})) → Accepted emptiesFormat ss xs → weight (emptiesFormat .writing xs) ≤ weight ss
@@ -34,9 +35,9 @@ least (s ∷ []) xs a = omega (arith, least-words 1 0 s (a .fitting))
 least (s ∷ t ∷ ss) xs a = absurd (omega arith)
 
 pub empties-laws : Laws (λ (_ : Unit {0}). true) emptiesFormat
-empties-laws = record
-  { shape = λ xs h. (refl, (ofWords-formed (length xs ∷ []) (omega (arith, h .1), tt), tt), (ofWords-padded (length xs ∷ []), tt))
-  ; return = λ xs h. (refl, rw (le-leb (length xs) L (h .1)) (ap reads (replicate-unit xs)))
-  ; sound = sound
-  ; least = least
-  }
+empties-laws = record {
+  shape = λ xs h. (refl, (ofWords-formed (length xs ∷ []) (omega (arith, h .1), tt), tt), (ofWords-padded (length xs ∷ []), tt));
+  return = λ xs h. (refl, rw (le-leb (length xs) L (h .1)) (ap reads (replicate-unit xs)));
+  sound = sound;
+  least = least;
+}

@@ -22,14 +22,14 @@ tuples (l ∷ ls) [] = []
 tuples (l ∷ ls) (r ∷ rs) = (l, r) ∷ tuples ls rs
 
 abbrev pub pairFormat : {A B : Type 0} → Format A → Format B → Format (A × B)
-pairFormat A B = record
-  { slots = A .slots + B .slots
-  ; writing = λ xs. A .writing (firsts xs) ++ B .writing (seconds xs)
-  ; sized = λ ss. firstOf (A .sized (take (A .slots) ss)) (further (A .slots) (B .sized (drop (A .slots) ss)))
-  ; reading = λ ss. after 0 (A .reading (take (A .slots) ss)) (λ ls.
+pairFormat A B = record {
+  slots = A .slots + B .slots;
+  writing = λ xs. A .writing (firsts xs) ++ B .writing (seconds xs);
+  sized = λ ss. firstOf (A .sized (take (A .slots) ss)) (further (A .slots) (B .sized (drop (A .slots) ss)));
+  reading = λ ss. after 0 (A .reading (take (A .slots) ss)) (λ ls.
       after (A .slots) (B .reading (drop (A .slots) ss)) (λ rs.
-        inBounds (eqb (length ls) (length rs)) (tuples ls rs)))
-  }
+      inBounds (eqb (length ls) (length rs)) (tuples ls rs)));
+}
 
 -- a pair takes what both sides take
 abbrev pub pairTakes : {A B : Type 0} → (Areas → List A → A → Bool) → (Areas → List B → B → Bool) → Areas → List (A × B) → A × B → Bool

@@ -53,7 +53,10 @@ pub impl<A: AsBytes, B: AsBytes> AsBytes for Pair<A, B> as PairAsBytes {
     ghost slices = { λ c. A·AsBytes .slices (c .first) ++ B·AsBytes .slices (c .second) };
 
     fn slices(&self) -> usize {
-        self.first.slices().saturating_add(self.second.slices()).min(MAX_WORDS)
+        self.first
+            .slices()
+            .saturating_add(self.second.slices())
+            .min(MAX_WORDS)
     }
 
     fn slice_len(&self, k: usize) -> Result<usize, Fault> {
@@ -85,7 +88,9 @@ pub impl<A: Kind, B: Kind> Kind for Pair<A, B> as PairKind {
     ghost format = { pairFormat (A·Kind .format) (B·Kind .format) };
 
     fn slice_count() -> usize {
-        A::slice_count().saturating_add(B::slice_count()).min(MAX_WORDS)
+        A::slice_count()
+            .saturating_add(B::slice_count())
+            .min(MAX_WORDS)
     }
 
     fn lawful() {

@@ -1,15 +1,15 @@
 // The worked examples of the format, run: each line is an image, or what a call answers.
 use area::fault::Fault;
-use column::append::append;
 use boolean::bools::*;
+use column::append::append;
 use column::element::*;
-use tuple::empties::*;
 use column::kind::*;
-use tuple::pair::*;
 use column::run::*;
-use offsets::strides::*;
 use indexed::encode;
+use offsets::strides::*;
 use std::io;
+use tuple::empties::*;
+use tuple::pair::*;
 
 // Prints a name and the image of `item`, or its refusal.
 fn show<A: AsBytes>(rt: &LibcRuntime, name: &str, item: &A) -> io::Result<()> {
@@ -129,8 +129,22 @@ fn appends(rt: &LibcRuntime) -> io::Result<()> {
     told(rt, "words 3 to 1", append(&mut strides, &words, 3, 1))?;
     told(rt, "words 5 to 5", append(&mut strides, &words, 5, 5))?;
     show(rt, "words appended", &strides)?;
+    append_bytes(rt)?;
     append_bits(rt)?;
     append_tuples(rt)
+}
+
+fn append_bytes(rt: &LibcRuntime) -> io::Result<()> {
+    let mut a = [0u8; 4];
+    let mut b = [0u8; 3];
+    let mut from = Run::new(&mut a);
+    for x in [1, 2, 3, 4] {
+        let _ = from.push(x);
+    }
+    let mut to = Run::new(&mut b);
+    told(rt, "bytes 1 to 3", append(&mut to, &from, 1, 3))?;
+    told(rt, "bytes 0 to 4", append(&mut to, &from, 0, 4))?;
+    show(rt, "bytes appended", &to)
 }
 
 fn append_bits(rt: &LibcRuntime) -> io::Result<()> {

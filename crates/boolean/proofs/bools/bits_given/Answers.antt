@@ -12,7 +12,7 @@ returns c =
     let b = c .args .bits in
     let m = c .args .count in
     rw (le-leb m 64 (omega arith))
-      (⊎-elim
-        (λ l. rw (div-eq-of-lt l, lt-ltb b (2 ^ m) l))
-        (λ l. rw (le-ltb b (2 ^ m) l) (ne-eqb _ 0 (omega (arith, le-div 1 b (2 ^ m) (pow-pos m) (omega arith)))))
-        (cases-lt b (2 ^ m)))
+    (⊎-elim
+    (λ l. rw (div-eq-of-lt l, lt-ltb b (2 ^ m) l))
+    (λ l. rw (le-ltb b (2 ^ m) l) (ne-eqb _ 0 (omega (arith, le-div 1 b (2 ^ m) (pow-pos m) (omega arith)))))
+    (cases-lt b (2 ^ m)))

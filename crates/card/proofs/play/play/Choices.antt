@@ -11,9 +11,9 @@ Inv-loop-at l =
     (l .count ≤ l .at)
     × (l .at ≤ length (l .input))
     × (BlockSound (l .entry .table) →
-        BlockSound (l .table)
-        × (blockAreas (l .table) ≡ blockAreas (l .entry .table))
-        × Ran (blockTakes (blockAreas (l .entry .table))) (blockFormat .writing) (l .entry .area) (blockList (l .entry .table)) (vec-items (l .entry .lines)) (l .input) (l .at) (blockList (l .table)) (vec-items (l .lines)))
+    BlockSound (l .table)
+    × (blockAreas (l .table) ≡ blockAreas (l .entry .table))
+    × Ran (blockTakes (blockAreas (l .entry .table))) (blockFormat .writing) (l .entry .area) (blockList (l .entry .table)) (vec-items (l .entry .lines)) (l .input) (l .at) (blockList (l .table)) (vec-items (l .lines)))
 
 abbrev pub μ-loop-at : given.MeasureT-loop-at
 μ-loop-at l = length (l .input) - l .at

@@ -13,10 +13,10 @@ returns-then-count-lt64 g c s =
     let i = c .args .pos in
     let m = c .args .count in
     let h : i + m ≤ length (boolsList (g .C·Index .list) (c .args .self .now)) = omega (arith, c .len-len .ensures s) in
-    let r : Reads (boolsList (g .C·Index .list) (c .args .self .now)) i m (c .if-bit-count-gt64 .word) = elim (c .if-bit-count-gt64 .came)
-      [ then-bit-count-gt64 w ↦ read-two k i m h (omega arith) _ _ _ (c .word .ensures (s .below)) (w .word-then-bit-count-gt64 .ensures (s .below)) (w .word-is) (omega arith) (omega arith)
+    let r : Reads (boolsList (g .C·Index .list) (c .args .self .now)) i m (c .if-bit-count-gt64 .word) = elim (c .if-bit-count-gt64 .came) [
+      | then-bit-count-gt64 w ↦ read-two k i m h (omega arith) _ _ _ (c .word .ensures (s .below)) (w .word-then-bit-count-gt64 .ensures (s .below)) (w .word-is) (omega arith) (omega arith)
       | else-bit-count-gt64 w ↦ read-one k i m h (omega arith) _ _ (c .word .ensures (s .below)) (w .word-is) (omega arith)
-      ] in
+    ] in
     masked r (c .if-count-lt64 .taken)
 
 pub returns-else-count-lt64 : need.returns-else-count-lt64
@@ -25,8 +25,8 @@ returns-else-count-lt64 g c s =
     let i = c .args .pos in
     let m = c .args .count in
     let h : i + m ≤ length (boolsList (g .C·Index .list) (c .args .self .now)) = omega (arith, c .len-len .ensures s) in
-    let r : Reads (boolsList (g .C·Index .list) (c .args .self .now)) i m (c .if-bit-count-gt64 .word) = elim (c .if-bit-count-gt64 .came)
-      [ then-bit-count-gt64 w ↦ read-two k i m h (omega arith) _ _ _ (c .word .ensures (s .below)) (w .word-then-bit-count-gt64 .ensures (s .below)) (w .word-is) (omega arith) (omega arith)
+    let r : Reads (boolsList (g .C·Index .list) (c .args .self .now)) i m (c .if-bit-count-gt64 .word) = elim (c .if-bit-count-gt64 .came) [
+      | then-bit-count-gt64 w ↦ read-two k i m h (omega arith) _ _ _ (c .word .ensures (s .below)) (w .word-then-bit-count-gt64 .ensures (s .below)) (w .word-is) (omega arith) (omega arith)
       | else-bit-count-gt64 w ↦ read-one k i m h (omega arith) _ _ (c .word .ensures (s .below)) (w .word-is) (omega arith)
-      ] in
+    ] in
     unmasked r (omega arith)

@@ -30,13 +30,13 @@ returns-then-k-n-2 g c = λ s.
     let l = length-push ss t in
     ap Err (c .at-start .ensures)
     ∙ sym
-        (elim (c .then-k-n-2 .came)
-          [ then-k-n-2·by·then-k-n-2 w ↦ sliceWord-past (ss ++ t ∷ []) k i (omega arith)
-          | then-k-n-2·by·else-k-n-2·then-k-ge-MAX-WORDS w ↦ sliceWord-past (ss ++ t ∷ []) k i (omega arith)
-          | then-k-n-2·by·else-k-n-2·else-k-ge-MAX-WORDS·then-i-gt1 w ↦
-              let z : k - length ss ≡ 0 = omega arith in
-              sliceWord-right ss (t ∷ []) k i (omega arith) (λ h. omega arith) ∙ ap (λ j. sliceWord (t ∷ []) j i) z ∙ element-past (b .tail .word ∷ b .tail .count ∷ []) i (omega arith)
-          ])
+    (elim (c .then-k-n-2 .came) [
+      | then-k-n-2·by·then-k-n-2 w ↦ sliceWord-past (ss ++ t ∷ []) k i (omega arith)
+      | then-k-n-2·by·else-k-n-2·then-k-ge-MAX-WORDS w ↦ sliceWord-past (ss ++ t ∷ []) k i (omega arith)
+      | then-k-n-2·by·else-k-n-2·else-k-ge-MAX-WORDS·then-i-gt1 w ↦
+          let z : k - length ss ≡ 0 = omega arith in
+          sliceWord-right ss (t ∷ []) k i (omega arith) (λ h. omega arith) ∙ ap (λ j. sliceWord (t ∷ []) j i) z ∙ element-past (b .tail .word ∷ b .tail .count ∷ []) i (omega arith)
+    ])
 
 pub returns-then-i-eq0 : need.returns-then-i-eq0
 returns-then-i-eq0 g c = λ s.

@@ -13,7 +13,7 @@ returns g c =
     let b = c .args .self .now in
     let ss = g .C·AsBytes .slices (b .values) in
     let t = tailSlice (b .tail .word) (b .tail .count) in
-    record
-      { count = λ s. omega (arith, c .slices .ensures .count (s .below), length-push ss t)
-      ; formed = λ s. all-append WellFormed ss (t ∷ []) (c .slices .ensures .formed (s .below)) (tail-formed (b .tail) (s .tail), tt)
-      }
+    record {
+      count = λ s. omega (arith, c .slices .ensures .count (s .below), length-push ss t);
+      formed = λ s. all-append WellFormed ss (t ∷ []) (c .slices .ensures .formed (s .below)) (tail-formed (b .tail) (s .tail), tt);
+    }

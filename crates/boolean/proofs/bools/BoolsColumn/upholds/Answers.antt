@@ -11,10 +11,10 @@ returns g c =
     let b = c .args .self .now in
     let f = g .C·Index .list in
     let p = g .C·Index .sound in
-    record
-      { held = λ s. (every-true (boolsList f b), omega (arith, length-is f p b s, s .short))
-      ; written = λ s.
+    record {
+      held = λ s. (every-true (boolsList f b), omega (arith, length-is f p b s, s .short));
+      written = λ s.
           ap₂ (λ ss t. ss ++ t ∷ [])
-            (c .upholds .ensures .written (s .below) ∙ ap (g .C·Kind .format .writing) (sym (groups-is f p b s)))
-            (ap₂ tailSlice (sym (word-is f p b s)) (sym (count-is f p b s)))
-      }
+          (c .upholds .ensures .written (s .below) ∙ ap (g .C·Kind .format .writing) (sym (groups-is f p b s)))
+          (ap₂ tailSlice (sym (word-is f p b s)) (sym (count-is f p b s)));
+    }
