@@ -1,2 +1,3 @@
 pub mod PlayLemmas
 pub mod RecordLemmas
+pub mod RunsLemmas

@@ -7,7 +7,7 @@ ghost use Rattle.std.specs.Vec.{made};
 ghost use Rattle.column.specs.Kind.{Accepted as AcceptedBy};
 ghost use Rattle.card.specs.Block.{BlockSound, blockAreas, blockFormat, blockList, blockTakes};
 ghost use Rattle.card.specs.Records.{records};
-ghost use Rattle.card.specs.Tables.{after, answer, imageLines, listAfter, linesOf};
+ghost use Rattle.card.specs.Tables.{Runs, after, answer, imageLines, listAfter, linesOf};
 use crate::block::BlockTable;
 use crate::line::Line;
 use crate::record::Record;
@@ -81,6 +81,7 @@ pub fn play(
     ensures keeps { λ _. ⌜ (BlockSound (now (table .entry)) → BlockSound (now (table .exit))) ⌝ }
     ensures after { λ r. ⌜ (BlockSound (now (table .entry)) → made r (λ _. blockList (now (table .exit)) ≡ listAfter (blockTakes (blockAreas (now (table .entry)))) (blockFormat .writing) (now (area .entry)) (blockList (now (table .entry))) (records (now (input .entry))))) ⌝ }
     ensures lines { λ r. ⌜ (BlockSound (now (table .entry)) → made r (λ _. vec-items (now (lines .exit)) ≡ vec-items (now (lines .entry)) ++ linesOf (blockTakes (blockAreas (now (table .entry)))) (blockFormat .writing) (now (area .entry)) (blockList (now (table .entry))) (records (now (input .entry))))) ⌝ }
+    ensures runs { λ r. ⌜ made r (λ _. Runs (blockTakes (blockAreas (now (table .entry)))) (blockFormat .writing) (now (area .entry))) ⌝ }
     ensures read_back { λ r. ⌜ (BlockSound (now (table .entry)) → made r (λ _. AcceptedBy blockFormat (blockFormat .writing (blockList (now (table .exit)))) (blockList (now (table .exit))))) ⌝ }
 {
     let mut at = 0;

@@ -6,6 +6,7 @@ use Rattle.std.proofs.shelf.Parts.{pushed}
 use Rattle.card.specs.Block.{BlockSound, blockAreas, blockFormat, blockList, blockTakes}
 use Rattle.card.specs.declared.line.Line.the-variants.{Refused}
 use Rattle.card.proofs.PlayLemmas.{Ended, ran-more, ran-all, ran-stopped, record-in}
+use Rattle.card.proofs.RunsLemmas.{runs}
 use Rattle.card.proofs.play.play.Needs as need
 use Rattle.card.proofs.play.play.Needs.{else-loop-at-test, then-loop-at-test·in-Err·in-Continue-push}
 
@@ -45,5 +46,6 @@ returns c =
       keeps = λ s. c .loop-at .inv .2 s .0;
       after = λ s. ended c s .list;
       lines = λ s. ended c s .shown;
+      runs = runs (blockTakes (blockAreas (c .args .table .now))) (blockFormat .writing) (c .args .area .now);
       read-back = λ s. c .read-back .ensures (c .loop-at .inv .2 s .0);
     }
