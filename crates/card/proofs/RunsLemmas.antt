@@ -25,9 +25,9 @@ module _ {E : Type 0} (t : List E → E → Bool) (w : List E → List Slice) (a
   lines-joined xs (None ∷ rs) ss h = absurd (false≢true (h .0))
 
   pub runs : Runs t w area
-  runs = record
-    { goesOn = list-joined
-    ; cleared = λ xs rs ss. list-joined xs rs (Some Clear ∷ ss)
-    ; shown = λ xs rs ss. lines-joined xs rs (Some Image ∷ ss)
-    ; ended = λ xs rs ss. lines-joined xs rs (None ∷ ss)
-    }
+  runs = record {
+    goesOn = list-joined;
+    cleared = λ xs rs ss. list-joined xs rs (Some Clear ∷ ss);
+    shown = λ xs rs ss. lines-joined xs rs (Some Image ∷ ss);
+    ended = λ xs rs ss. lines-joined xs rs (None ∷ ss);
+  }
