@@ -23,7 +23,7 @@ pub trait WriteBytes {
 
     // Takes a piece whole exactly when it is no longer than the room; else its fault, and nothing moves.
     fn write_all(&mut self, bytes: &[u8]) -> Result<(), Self::Error>
-        ensures answer { λ r. ⌜ r ≡ pieceAnswer (room (now (self .entry))) (now (bytes .entry)) (fault (now (self .entry)) (now (bytes .entry))) ⌝ }
+        ensures answer { λ r. ⌜ r ≡ pieceAnswer (room (now (self .entry))) (now (bytes .entry)) (fault (now (self .exit)) (now (bytes .entry))) ⌝ }
         ensures taken { λ _. ⌜ taken (now (self .exit)) ≡ taking (room (now (self .entry))) (taken (now (self .entry))) (now (bytes .entry)) ⌝ }
         ensures room { λ _. ⌜ room (now (self .exit)) ≡ roomAfter (room (now (self .entry))) (now (bytes .entry)) ⌝ }
         ensures beyond { λ _. ⌜ beyond (now (self .exit)) ≡ leaving (room (now (self .entry))) (beyond (now (self .entry))) (now (bytes .entry)) ⌝ };

@@ -1,1 +1,2 @@
 pub mod ImageLemmas
+pub mod PieceLemmas

@@ -1,1 +1,3 @@
+pub mod Gives
 pub mod Image
+pub mod Pieces

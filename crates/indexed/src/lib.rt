@@ -9,6 +9,9 @@ ghost use Rattle.area.specs.Slice.{wordsFor};
 ghost use Rattle.column.specs.Kind.{CAP, slot};
 ghost use Rattle.column.specs.Column.{sliceLength};
 ghost use Rattle.indexed.specs.Image.{image, index, wordsOf, lengthInWords, lengthInBytes, encodeAnswer, encoded};
+
+pub mod write;
+
 use area::fault::Fault;
 use area::fault::Refusal;
 use column::kind::AsBytes;

@@ -1,11 +1,14 @@
 // The worked examples of the format, run: each line is an image, or what a call answers.
 use area::fault::Fault;
 use boolean::bools::*;
+use bytes::write::*;
 use column::append::append;
 use column::element::*;
 use column::kind::*;
 use column::run::*;
 use indexed::encode;
+use indexed::write::WriteFault;
+use indexed::write::write;
 use offsets::strides::*;
 use std::io;
 use tuple::empties::*;
@@ -180,9 +183,60 @@ fn append_tuples(rt: &LibcRuntime) -> io::Result<()> {
     show(rt, "tuples appended", &to)
 }
 
+// Prints the answer of a write.
+fn told_write<F: Drop>(
+    rt: &LibcRuntime,
+    name: &str,
+    answer: Result<(), WriteFault<F>>,
+) -> io::Result<()> {
+    match answer {
+        Ok(()) => println!(rt, "{name}: ok"),
+        Err(WriteFault::TooLong(fault)) => refused(rt, name, fault),
+        Err(WriteFault::Full(fault, _)) => refused(rt, name, fault),
+    }
+}
+
+fn show_bytes(rt: &LibcRuntime, name: &str, bytes: &[u8]) -> io::Result<()> {
+    print!(rt, "{name}:")?;
+    for b in bytes {
+        print!(rt, " {b:x}")?;
+    }
+    println!(rt, "")
+}
+
+// The image of three bytes, given to a byte area, to a word area, and to a quota that is short in its third piece.
+fn sinks(rt: &LibcRuntime) -> io::Result<()> {
+    let mut cells = [0u8; 3];
+    let mut bytes = Run::new(&mut cells);
+    for x in [1, 2, 3] {
+        let _ = bytes.push(x);
+    }
+    let mut area = [0xffu8; 26];
+    told_write(
+        rt,
+        "to a byte area",
+        write(&bytes, &mut ByteSink::new(&mut area)),
+    )?;
+    show_bytes(rt, "byte area", &area)?;
+    let mut words = [0xffu64; 4];
+    told_write(
+        rt,
+        "to a word area",
+        write(&bytes, &mut WordSink::new(&mut words)),
+    )?;
+    let [a, b, c, d] = words;
+    println!(rt, "word area: {a:x} {b:x} {c:x} {d:x}")?;
+    let mut short = [0xffu8; 18];
+    let mut quota = Quota::new(ByteSink::new(&mut short), 18);
+    told_write(rt, "to a quota", write(&bytes, &mut quota))?;
+    drop(quota);
+    show_bytes(rt, "under the quota", &short)
+}
+
 fn main(rt: LibcRuntime) -> io::Result<()> {
     strides(&rt)?;
     bools(&rt)?;
     small(&rt)?;
-    appends(&rt)
+    appends(&rt)?;
+    sinks(&rt)
 }
