@@ -128,7 +128,8 @@ pub impl<'a> Kind for Strides<'a> as StridesKind {
     fn slice_count() -> usize
         ensures { λ r. ⌜ r ≡ min (stridesFormat wordRun .slots) CAP ⌝ }
     {
-        2
+        // the head, and the run of bounds
+        1 + 1
     }
 
     fn lawful()
