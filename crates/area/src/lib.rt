@@ -1,3 +1,5 @@
 // Words, bytes and refusals: what every layer above speaks in.
+#![tactic(auto)]
+
 pub mod fault;
 pub mod words;

@@ -1,4 +1,6 @@
 // Stored images, admitted and refused, read in place, and written again. Each line is what a call answers.
+#![tactic(auto)]
+
 use area::fault::*;
 use boolean::bools::*;
 use boolean::form::*;

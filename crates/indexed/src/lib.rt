@@ -1,4 +1,6 @@
 // Images: an index of byte offsets, and then the words of each slice.
+#![tactic(auto)]
+
 ghost use Rattle.std.specs.Prelude.{◌≡◌, ℕ, ◌+◌, ◌*◌, ◌≤◌, List, ◌++◌, length, drop, Ok};
 ghost use Rattle.std.proofs.Math.Seq.{paste};
 ghost use Rattle.area.specs.Slice.{words_for};

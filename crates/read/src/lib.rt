@@ -1,4 +1,6 @@
 // The reading side: read forms of stored images, and admission.
+#![tactic(auto)]
+
 pub mod element;
 pub mod form;
 pub mod run;

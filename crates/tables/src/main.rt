@@ -1,4 +1,6 @@
 // Reads records from standard input into a block table, and prints a line for each.
+#![tactic(auto)]
+
 use boolean::bools::*;
 use card::block::block_table;
 use card::line::Line;

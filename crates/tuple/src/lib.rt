@@ -1,4 +1,6 @@
 // Elements that hold nothing, and pairs.
+#![tactic(auto)]
+
 pub mod empties;
 pub mod form;
 pub mod pair;

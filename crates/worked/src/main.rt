@@ -1,4 +1,6 @@
 // The worked examples of the format, run: each line is an image, or what a call answers.
+#![tactic(auto)]
+
 use area::fault::Fault;
 use boolean::bools::*;
 use storage::write::*;

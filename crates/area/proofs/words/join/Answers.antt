@@ -6,4 +6,4 @@ use Rattle.area.proofs.words.join.Goals as goal
 pub returns : goal.returns
 returns c =
     let room : c.args.at + 8 ≤ length c.args.bytes.now = omega arith in
-    rw (le-leb _ _ room) (ap Some (c.from-le-bytes.ensures ∙ sym (eight c.args.bytes.now c.args.at room)))
+    rw (le-leb _ _ room) (ap Some (c.from_le_bytes.ensures ∙ sym (eight c.args.bytes.now c.args.at room)))
