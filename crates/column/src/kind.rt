@@ -37,16 +37,16 @@ pub trait AsBytes: Index {
 
     // The number of slices, or 536,870,911 where there are more.
     fn slices(&self) -> usize
-        ensures count { sound self.now → result ≡ min (length (slices self.now)) CAP }
-        ensures formed { sound self.now → All WellFormed (slices self.now) };
+        ensures count { Self.sound self.now → result ≡ min (length (slices self.now)) CAP }
+        ensures formed { Self.sound self.now → All WellFormed (slices self.now) };
 
     // The byte length of slice `k`; 10 past the slices, 15 where no image holds so many bytes.
     fn slice_len(&self, k: usize) -> Result<usize, Fault>
-        ensures { sound self.now → result ≡ slice_length (slices self.now) k };
+        ensures { Self.sound self.now → result ≡ slice_length (slices self.now) k };
 
     // Word `i` of slice `k`; refused as its length is, and with 10 past the slice's words.
     fn slice_word(&self, k: usize, i: usize) -> Result<u64, Fault>
-        ensures { sound self.now → result ≡ word_in_slice (slices self.now) k i };
+        ensures { Self.sound self.now → result ≡ word_in_slice (slices self.now) k i };
 }
 
 // An element type, a number of slices, a writing and a reading, with the laws that join them.
@@ -73,24 +73,24 @@ pub trait Column: Kind + AsBytes + Index<Item = Self::Elem> {
 
     // Does nothing: its clauses are what holds of a sound column at all times.
     fn upholds(&self)
-        ensures held { sound self.now → Held Self.Elem.Value.fits (list self.now) }
-        ensures written { sound self.now → slices self.now ≡ Self.Kind.format.writing (list self.now) };
+        ensures held { Self.sound self.now → Held Self.Elem.Value.fits (Self.list self.now) }
+        ensures written { Self.sound self.now → Self.slices self.now ≡ Self.Kind.format.writing (Self.list self.now) };
 
     // Whether a push of `x` would be taken.
     fn takes(&self, x: Self::Elem) -> bool
-        ensures { sound self.now → result ≡ takes (areas self.now) (list self.now) x };
+        ensures { Self.sound self.now → result ≡ takes (areas self.now) (Self.list self.now) x };
 
     // Puts `x` at the end if it is taken; else 12, the list unmoved.
     fn push(&mut self, x: Self::Elem) -> Result<(), Fault>
-        ensures keeps { sound self.old → sound self.new }
+        ensures keeps { Self.sound self.old → Self.sound self.new }
         ensures fitting { Self.Elem.Value.fits x ≡ true }
-        ensures answer { sound self.old → result ≡ push_answer (takes (areas self.old) (list self.old) x) }
-        ensures after { sound self.old → list self.new ≡ pushed (takes (areas self.old) (list self.old) x) (list self.old) x }
-        ensures same { sound self.old → areas self.new ≡ areas self.old };
+        ensures answer { Self.sound self.old → result ≡ push_answer (takes (areas self.old) (Self.list self.old) x) }
+        ensures after { Self.sound self.old → Self.list self.new ≡ pushed (takes (areas self.old) (Self.list self.old) x) (Self.list self.old) x }
+        ensures same { Self.sound self.old → areas self.new ≡ areas self.old };
 
     // Empties the list.
     fn clear(&mut self)
-        ensures keeps { sound self.old → sound self.new }
-        ensures after { sound self.old → list self.new ≡ [] }
-        ensures same { sound self.old → areas self.new ≡ areas self.old };
+        ensures keeps { Self.sound self.old → Self.sound self.new }
+        ensures after { Self.sound self.old → Self.list self.new ≡ [] }
+        ensures same { Self.sound self.old → areas self.new ≡ areas self.old };
 }

@@ -4,20 +4,20 @@ use Rattle.indexed.proofs.encode.Given as given
 use Rattle.indexed.proofs.encode.Goals as goal
 
 -- the slices are always written where there is an image with room for it
-never : (g : given.Over) (c : goal.After-from-residual-in-err-write-slices g) → g.A.Index.sound c.args.item.now → ⊥
+never : (g : given.Over) (c : goal.After-from_residual-in_err-write_slices g) → g.A.Index.sound c.args.item.now → ⊥
 never g c s =
-    err-not-ok (image-left (g.A.AsBytes.slices c.args.item.now) c.args.area.now c.args.place c.in-ok-words.words c.slices.result c.saturating-add.result c.write-index.new.part c.write-slices.new.part
-    (c.in-ok-words.ensures s) (omega arith) (c.slices.ensures.count s) c.saturating-add.ensures (c.in-ok-write-index.ensures s) (c.in-err-write-slices.ensures s)).0
+    err-not-ok (image-left (g.A.AsBytes.slices c.args.item.now) c.args.area.now c.args.place c.in_ok-words.words c.slices.result c.saturating_add.result c.write_index.new.part c.write_slices.new.part
+    (c.in_ok-words.ensures s) (omega arith) (c.slices.ensures.count s) c.saturating_add.ensures (c.in_ok-write_index.ensures s) (c.in_err-write_slices.ensures s)).0
 
-pub returns-in-err-write-slices : goal.returns-in-err-write-slices
-returns-in-err-write-slices g c = record { answer = λ s. absurd (never g c s); after = λ s. absurd (never g c s) }
+pub returns-in_err-write_slices : goal.returns-in_err-write_slices
+returns-in_err-write_slices g c = record { answer = λ s. absurd (never g c s); after = λ s. absurd (never g c s) }
 
 pub returns : goal.returns
 returns g c =
     record {
-      answer = λ s. encode-answer (g.A.AsBytes.slices c.args.item.now) c.args.area.now c.args.place _ (c.in-ok-words.ensures s) (omega arith);
+      answer = λ s. encode-answer (g.A.AsBytes.slices c.args.item.now) c.args.area.now c.args.place _ (c.in_ok-words.ensures s) (omega arith);
       after = λ s.
-          encode-after (g.A.AsBytes.slices c.args.item.now) c.args.area.now c.args.place c.in-ok-words.words _ c.write-slices.new.part (c.in-ok-words.ensures s) (omega arith) (omega arith)
-          (image-left (g.A.AsBytes.slices c.args.item.now) c.args.area.now c.args.place c.in-ok-words.words c.slices.result c.saturating-add.result c.write-index.new.part c.write-slices.new.part
-          (c.in-ok-words.ensures s) (omega arith) (c.slices.ensures.count s) c.saturating-add.ensures (c.in-ok-write-index.ensures s) (c.in-ok-write-slices.ensures s)).1;
+          encode-after (g.A.AsBytes.slices c.args.item.now) c.args.area.now c.args.place c.in_ok-words.words _ c.write_slices.new.part (c.in_ok-words.ensures s) (omega arith) (omega arith)
+          (image-left (g.A.AsBytes.slices c.args.item.now) c.args.area.now c.args.place c.in_ok-words.words c.slices.result c.saturating_add.result c.write_index.new.part c.write_slices.new.part
+          (c.in_ok-words.ensures s) (omega arith) (c.slices.ensures.count s) c.saturating_add.ensures (c.in_ok-write_index.ensures s) (c.in_ok-write_slices.ensures s)).1;
     }

@@ -9,22 +9,22 @@ returns-then-count-part g c s l m = absurd (omega (arith, length-image (g.A.AsBy
 
 pub loop-k-init : goal.loop-k-init
 loop-k-init g c s l = (
-  omega (arith, length-image (g.A.AsBytes.slices c.args.item.now), c.slices-count.ensures.count s, c.saturating-add.ensures, c.saturating-mul-start.ensures),
-  paste_none (set c.args.part.now 0 c.saturating-mul-start.result) 1 (ends (8 * (1 + length (g.A.AsBytes.slices c.args.item.now))) (g.A.AsBytes.slices c.args.item.now)),
+  omega (arith, length-image (g.A.AsBytes.slices c.args.item.now), c.slices-count.ensures.count s, c.saturating_add.ensures, c.saturating_mul-start.ensures),
+  paste_none (set c.args.part.now 0 c.saturating_mul-start.result) 1 (ends (8 * (1 + length (g.A.AsBytes.slices c.args.item.now))) (g.A.AsBytes.slices c.args.item.now)),
 )
 
-pub returns-in-err-slice-len : goal.returns-in-err-slice-len
-returns-in-err-slice-len g c s l m =
-    absurd (omega (arith, (long-err (g.A.AsBytes.slices c.args.item.now) c.loop-k.k _ (c.slices-count.ensures.formed s) (omega (arith, c.slices-count.ensures.count s)) (c.in-err-slice-len.ensures s)).1))
+pub returns-in_err-slice_len : goal.returns-in_err-slice_len
+returns-in_err-slice_len g c s l m =
+    absurd (omega (arith, (long-err (g.A.AsBytes.slices c.args.item.now) c.loop-k.k _ (c.slices-count.ensures.formed s) (omega (arith, c.slices-count.ensures.count s)) (c.in_err-slice_len.ensures s)).1))
 
 pub loop-k-preserved : goal.loop-k-preserved
 loop-k-preserved g c s l =
     let i = c.loop-k.invariant s l in
-    let n = c.in-ok-slice-len.ensures s in
-    let t = index-turn (g.A.AsBytes.slices c.args.item.now) c.loop-k.k _ _ _ _ (c.slices-count.ensures.formed s) n l i.0 c.saturating-add-end.ensures c.saturating-add-in-loop-k.ensures in (
+    let n = c.in_ok-slice_len.ensures s in
+    let t = index-turn (g.A.AsBytes.slices c.args.item.now) c.loop-k.k _ _ _ _ (c.slices-count.ensures.formed s) n l i.0 c.saturating_add-end.ensures c.saturating_add-in-loop-k.ensures in (
       t.0,
-      paste-turn (set c.args.part.now 0 c.saturating-mul-start.result) 1 _ _ c.loop-k.k _ _ i.1 (omega arith) t.1
-          (omega (arith, length-set c.args.part.now 0 c.saturating-mul-start.result))
+      paste-turn (set c.args.part.now 0 c.saturating_mul-start.result) 1 _ _ c.loop-k.k _ _ i.1 (omega arith) t.1
+          (omega (arith, length-set c.args.part.now 0 c.saturating_mul-start.result))
           (omega (arith, length-ends (8 * (1 + length (g.A.AsBytes.slices c.args.item.now))) (g.A.AsBytes.slices c.args.item.now), (length-ok (g.A.AsBytes.slices c.args.item.now) c.loop-k.k _ n).1)),
     )
 
@@ -35,5 +35,5 @@ returns g c s l m =
     let k = c.slices-count.ensures.count s in (
       refl,
       i.1 ∙ index-written (g.A.AsBytes.slices c.args.item.now) c.args.part.now _ _ (omega arith)
-          (omega (arith, c.saturating-add.ensures, c.saturating-mul-start.ensures)) (omega arith),
+          (omega (arith, c.saturating_add.ensures, c.saturating_mul-start.ensures)) (omega arith),
     )

@@ -3,13 +3,13 @@ use Rattle.column.specs.Kind.{slot}
 use Rattle.indexed.proofs.ImageLemmas.{err-not-ok, word_ok, paste-turn, paste-over}
 use Rattle.indexed.proofs.write_slice.Goals as goal
 
-pub returns-in-err-part : goal.returns-in-err-part
-returns-in-err-part g c s l m =
-    absurd (err-not-ok (c.in-err-part.ensures s ∙ word_ok (g.A.AsBytes.slices c.args.item.now) c.args.k c.loop-i.i l (omega arith)))
+pub returns-in_err-part : goal.returns-in_err-part
+returns-in_err-part g c s l m =
+    absurd (err-not-ok (c.in_err-part.ensures s ∙ word_ok (g.A.AsBytes.slices c.args.item.now) c.args.k c.loop-i.i l (omega arith)))
 
 pub loop-i-preserved : goal.loop-i-preserved
 loop-i-preserved g c s l m =
-    let e = c.in-ok-part.ensures s ∙ word_ok (g.A.AsBytes.slices c.args.item.now) c.args.k c.loop-i.i l (omega arith) in
+    let e = c.in_ok-part.ensures s ∙ word_ok (g.A.AsBytes.slices c.args.item.now) c.args.k c.loop-i.i l (omega arith) in
     paste-turn c.args.part.now 0 (slot (g.A.AsBytes.slices c.args.item.now) c.args.k).words c.loop-i.part c.loop-i.i _ _ (c.loop-i.invariant s l m) (sym (zero-add c.loop-i.i)) (cc) (omega arith) (omega arith)
 
 pub returns : goal.returns

@@ -6,7 +6,7 @@ pub returns-then-at-input : goal.returns-then-at-input
 returns-then-at-input c = sym (record-past c.args.input.now c.args.at c.if-at-input.true)
 
 pub returns-then-kind-eq1 : goal.returns-then-kind-eq1
-returns-then-kind-eq1 c = rw (record-at c.args.input.now c.args.at c.if-at-input.false, c.if-kind-eq1.true) c.push-record.ensures
+returns-then-kind-eq1 c = rw (record-at c.args.input.now c.args.at c.if-at-input.false, c.if-kind-eq1.true) c.push_record.ensures
 
 pub returns-then-kind-eq2 : goal.returns-then-kind-eq2
 returns-then-kind-eq2 c = rw (record-at c.args.input.now c.args.at c.if-at-input.false, c.if-kind-eq2.true)

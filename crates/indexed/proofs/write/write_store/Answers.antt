@@ -18,22 +18,22 @@ returns-in-None g c =
     let l = word_at-none ws c.loop-i.i c.in-None.ensures in
     answered ps c.args.sink.now c.loop-i.sink c.loop-i.piece _ (omega arith) (omega (arith, c.loop-i.invariant.0), took-all ps c.loop-i.i (omega arith) c.loop-i.invariant.1)
 
-pub returns-in-err-give : goal.returns-in-err-give
-returns-in-err-give g c =
+pub returns-in_err-give : goal.returns-in_err-give
+returns-in_err-give g c =
     let ws = g.S.Store.words c.args.store.now in
     let ps = map (digits 256 8) ws in
     let n = length-map ws (digits 256 8) in
     let k = c.count-i-end.ensures.count in
-    let p = err_from_is_err_and c.from-residual.result c.from-residual.ensures.1 in
-    let q = store-turn ws c.loop-i.i c.in-Some.word _ c.in-Some.ensures (c.to-le-bytes-word.ensures ∙ le_bytes c.in-Some.word) in
-    rw (p.1, p.2) (answered ps c.args.sink.now c.give.new.sink 0 _ (omega arith) (stop-at ps c.loop-i.i 0 c.loop-i.piece _ q.0 q.1 c.loop-i.invariant.1 (omega (arith, c.loop-i.invariant.0)) c.in-err-give.ensures))
+    let p = err_from_is_err_and c.from_residual.result c.from_residual.ensures.1 in
+    let q = store-turn ws c.loop-i.i c.in-Some.word _ c.in-Some.ensures (c.to_le_bytes-word.ensures ∙ le_bytes c.in-Some.word) in
+    rw (p.1, p.2) (answered ps c.args.sink.now c.give.new.sink 0 _ (omega arith) (stop-at ps c.loop-i.i 0 c.loop-i.piece _ q.0 q.1 c.loop-i.invariant.1 (omega (arith, c.loop-i.invariant.0)) c.in_err-give.ensures))
 
 pub loop-i-preserved : goal.loop-i-preserved
 loop-i-preserved g c =
     let ws = g.S.Store.words c.args.store.now in
-    let q = store-turn ws c.loop-i.i c.in-Some.word _ c.in-Some.ensures (c.to-le-bytes-word.ensures ∙ le_bytes c.in-Some.word) in (
-      omega (arith, c.loop-i.invariant.0, c.in-ok-give.ensures.0),
-      took_more (map (digits 256 8) ws) c.loop-i.i _ q.0 q.1 c.loop-i.invariant.1 c.in-ok-give.ensures.1,
+    let q = store-turn ws c.loop-i.i c.in-Some.word _ c.in-Some.ensures (c.to_le_bytes-word.ensures ∙ le_bytes c.in-Some.word) in (
+      omega (arith, c.loop-i.invariant.0, c.in_ok-give.ensures.0),
+      took_more (map (digits 256 8) ws) c.loop-i.i _ q.0 q.1 c.loop-i.invariant.1 c.in_ok-give.ensures.1,
     )
 
 pub returns : goal.returns

@@ -14,25 +14,25 @@ loop-i-init g c s w l = (omega arith, took-none c.args.sink.now)
 pub returns-in-Err : goal.returns-in-Err
 returns-in-Err g c s w l =
     let ss = g.A.AsBytes.slices c.args.item.now in
-    absurd (err-not-ok (c.in-Err.ensures s ∙ word_ok ss c.args.k c.loop-i.i (length-known ss c.args.k _ (sym l)) (omega (arith, w.1, length-ok ss c.args.k _ (sym l), c.saturating-add-i-end.ensures))))
+    absurd (err-not-ok (c.in-Err.ensures s ∙ word_ok ss c.args.k c.loop-i.i (length-known ss c.args.k _ (sym l)) (omega (arith, w.1, length-ok ss c.args.k _ (sym l), c.saturating_add-i-end.ensures))))
 
-pub returns-in-err-give : goal.returns-in-err-give
-returns-in-err-give g c s w l =
-    let p = err_from_is_err_and c.from-residual.result c.from-residual.ensures.1 in
+pub returns-in_err-give : goal.returns-in_err-give
+returns-in_err-give g c s w l =
+    let p = err_from_is_err_and c.from_residual.result c.from_residual.ensures.1 in
     let ss = g.A.AsBytes.slices c.args.item.now in
     let a = slot ss c.args.k in
     let i = c.loop-i.invariant s w l in
-    let q = word-turn ss c.args.k c.loop-i.i c.args.bytes c.saturating-add-i-end.result c.min.result c.in-Ok.word c.to-le-bytes-word.result w l c.saturating-add-i-end.ensures c.loop-i-test.true c.min.ensures (c.in-Ok.ensures s) (c.to-le-bytes-word.ensures ∙ le_bytes c.in-Ok.word) in
-    rw (p.1, p.2) (stop-at (chunks 8 (words_for a.bytes) (contents a)) c.loop-i.i c.args.piece.now c.loop-i.piece _ q.0 q.1 i.1 i.0 c.in-err-give.ensures)
+    let q = word-turn ss c.args.k c.loop-i.i c.args.bytes c.saturating_add-i-end.result c.min.result c.in-Ok.word c.to_le_bytes-word.result w l c.saturating_add-i-end.ensures c.loop-i-test.true c.min.ensures (c.in-Ok.ensures s) (c.to_le_bytes-word.ensures ∙ le_bytes c.in-Ok.word) in
+    rw (p.1, p.2) (stop-at (chunks 8 (words_for a.bytes) (contents a)) c.loop-i.i c.args.piece.now c.loop-i.piece _ q.0 q.1 i.1 i.0 c.in_err-give.ensures)
 
 pub loop-i-preserved : goal.loop-i-preserved
 loop-i-preserved g c s w l =
     let ss = g.A.AsBytes.slices c.args.item.now in
     let a = slot ss c.args.k in
     let i = c.loop-i.invariant s w l in
-    let q = word-turn ss c.args.k c.loop-i.i c.args.bytes c.saturating-add-i-end.result c.min.result c.in-Ok.word c.to-le-bytes-word.result w l c.saturating-add-i-end.ensures c.loop-i-test.true c.min.ensures (c.in-Ok.ensures s) (c.to-le-bytes-word.ensures ∙ le_bytes c.in-Ok.word) in (
-      omega (arith, i.0, c.in-ok-give.ensures.0),
-      took_more (chunks 8 (words_for a.bytes) (contents a)) c.loop-i.i _ q.0 q.1 i.1 c.in-ok-give.ensures.1,
+    let q = word-turn ss c.args.k c.loop-i.i c.args.bytes c.saturating_add-i-end.result c.min.result c.in-Ok.word c.to_le_bytes-word.result w l c.saturating_add-i-end.ensures c.loop-i-test.true c.min.ensures (c.in-Ok.ensures s) (c.to_le_bytes-word.ensures ∙ le_bytes c.in-Ok.word) in (
+      omega (arith, i.0, c.in_ok-give.ensures.0),
+      took_more (chunks 8 (words_for a.bytes) (contents a)) c.loop-i.i _ q.0 q.1 i.1 c.in_ok-give.ensures.1,
     )
 
 pub returns : goal.returns
@@ -40,5 +40,5 @@ returns g c s w l =
     let ss = g.A.AsBytes.slices c.args.item.now in
     let a = slot ss c.args.k in
     let i = c.loop-i.invariant s w l in
-    let n : length (chunks 8 (words_for a.bytes) (contents a)) ≡ c.loop-i.i = omega (arith, length-chunks 8 (words_for a.bytes) (contents a), length-ok ss c.args.k _ (sym l), c.saturating-add-i-end.ensures) in
+    let n : length (chunks 8 (words_for a.bytes) (contents a)) ≡ c.loop-i.i = omega (arith, length-chunks 8 (words_for a.bytes) (contents a), length-ok ss c.args.k _ (sym l), c.saturating_add-i-end.ensures) in
     (omega (arith, i.0), took-all (chunks 8 (words_for a.bytes) (contents a)) c.loop-i.i (omega arith) i.1)

@@ -7,18 +7,18 @@ use Rattle.boolean.proofs.BitsLemmas.{Kept, kept, sound-kept, given, push-refuse
 use Rattle.boolean.proofs.bools.Bools.push_bits.Goals as goal
 use Rattle.boolean.proofs.bools.Bools.push_bits.Goals.{then-valid-eq0, else-valid-eq0}
 
-pub returns-then-count-saturating-sub : goal.returns-then-count-saturating-sub
-returns-then-count-saturating-sub g c =
+pub returns-then-count-saturating_sub : goal.returns-then-count-saturating_sub
+returns-then-count-saturating_sub g c =
     let old = c.args.self.now in
     let xs = bools_list g.C.Index.list old in
     let Sound = BoolsSound g.C.Index.list g.C.Index.sound old in
     let takes = g.C.Column.takes in
     let a = g.C.Column.areas old.values in
-    let h = given c.args.bits c.args.count c.if-not-bits-given.ensures in
+    let h = given c.args.bits c.args.count c.if-not-bits_given.ensures in
     let none : Sound → bits_taken (bools_takes takes a) xs c.args.bits c.args.count ≡ false = λ s. taken_none (kept s) h takes a (omega (arith, c.len.ensures s)) in
     record {
       keeps = λ s. s;
-      answer = λ s. ap Err c.at-start-then-count-saturating-sub.ensures ∙ bits-answer (bools_takes takes a) xs h (none s);
+      answer = λ s. ap Err c.at_start-then-count-saturating_sub.ensures ∙ bits-answer (bools_takes takes a) xs h (none s);
       after = λ s. bits-list (bools_takes takes a) xs h (none s);
       same = λ s. refl;
     }
@@ -30,7 +30,7 @@ returns-then-total-lt64 g c =
     let Sound = BoolsSound g.C.Index.list g.C.Index.sound old in
     let takes = g.C.Column.takes in
     let a = g.C.Column.areas old.values in
-    let h = given c.args.bits c.args.count c.if-not-bits-given.ensures in
+    let h = given c.args.bits c.args.count c.if-not-bits_given.ensures in
     let room : Sound → c.args.count ≤ L - length xs = λ s. omega (arith, c.len.ensures s) in
     let all = λ (s : Sound). taken-all (kept s) h takes a (room s) c.if-total-lt64.true in
     let grown = λ (s : Sound). grown-short (kept s) h (room s) c.if-total-lt64.true in
@@ -41,17 +41,17 @@ returns-then-total-lt64 g c =
       same = λ s. refl;
     }
 
-pub returns-in-err-push : goal.returns-in-err-push
-returns-in-err-push g c =
+pub returns-in_err-push : goal.returns-in_err-push
+returns-in_err-push g c =
     let old = c.args.self.now in
     let xs = bools_list g.C.Index.list old in
     let Sound = BoolsSound g.C.Index.list g.C.Index.sound old in
     let takes = g.C.Column.takes in
     let a = g.C.Column.areas old.values in
-    let h = given c.args.bits c.args.count c.if-not-bits-given.ensures in
+    let h = given c.args.bits c.args.count c.if-not-bits_given.ensures in
     let room : Sound → c.args.count ≤ L - length xs = λ s. omega (arith, c.len.ensures s) in
-    let y = c.in-err-push.ensures in
-    let p = err_from_is_err_and c.from-residual.result c.from-residual.ensures.1 in
+    let y = c.in_err-push.ensures in
+    let p = err_from_is_err_and c.from_residual.result c.from_residual.ensures.1 in
     let q = λ (s : Sound). push-refused _ _ _ _ (y.answer s.below) (y.after s.below) in
     let none = λ (s : Sound). taken-filled (kept s) h takes a (room s) c.if-total-lt64.false ∙ (q s).0 in
     record {
@@ -68,9 +68,9 @@ returns g c =
     let Sound = BoolsSound g.C.Index.list g.C.Index.sound old in
     let takes = g.C.Column.takes in
     let a = g.C.Column.areas old.values in
-    let h = given c.args.bits c.args.count c.if-not-bits-given.ensures in
+    let h = given c.args.bits c.args.count c.if-not-bits_given.ensures in
     let room : Sound → c.args.count ≤ L - length xs = λ s. omega (arith, c.len.ensures s) in
-    let y = c.in-ok-push.ensures in
+    let y = c.in_ok-push.ensures in
     let q = λ (s : Sound). push-taken _ _ _ _ (y.answer s.below) (y.after s.below) in
     let all = λ (s : Sound). taken-filled (kept s) h takes a (room s) c.if-total-lt64.false ∙ (q s).0 in
     let left : Sound → c.if-valid-eq0.rest ≡ c.args.bits / 2 ^ (64 - old.tail.count % 64) = λ s. elim c.if-valid-eq0.branch [

@@ -9,7 +9,7 @@ use Rattle.boolean.proofs.bools.BoolsAsBytes.slice_len.Goals as goal
 pub returns-then-k-n : goal.returns-then-k-n
 returns-then-k-n g c = λ s.
     let b = c.args.self.now in
-    c.slice-len.ensures s.below
+    c.slice_len.ensures s.below
     ∙ sym (slice_length-left (g.C.AsBytes.slices b.values) (tail_slice b.tail.word b.tail.count ∷ []) c.args.k (omega (arith, c.slices-n.ensures.count s.below)))
 
 pub returns-then-k-n-2 : goal.returns-then-k-n-2
@@ -17,7 +17,7 @@ returns-then-k-n-2 g c = λ s.
     let b = c.args.self.now in
     let ss = g.C.AsBytes.slices b.values in
     let t = tail_slice b.tail.word b.tail.count in
-    ap Err c.at-start.ensures ∙ sym (slice_length-past (ss ++ t ∷ []) c.args.k (omega (arith, c.then-k-n-2.either, c.slices-n.ensures.count s.below, length_push ss t)))
+    ap Err c.at_start.ensures ∙ sym (slice_length-past (ss ++ t ∷ []) c.args.k (omega (arith, c.then-k-n-2.either, c.slices-n.ensures.count s.below, length_push ss t)))
 
 pub returns : goal.returns
 returns g c = λ s.

@@ -6,12 +6,12 @@ use Rattle.column.specs.Column.{word_in_slice}
 use Rattle.column.proofs.ColumnLemmas.{element-past}
 use Rattle.column.proofs.SliceAt.{word_in_slice-left, word_in_slice-right, word_in_slice-past}
 use Rattle.boolean.proofs.bools.BoolsAsBytes.slice_word.Goals as goal
-use Rattle.boolean.proofs.bools.BoolsAsBytes.slice_word.Goals.{then-k-n-2-via-then-k-n-2, then-k-n-2-via-else-k-n-2+then-k-ge-MAX-WORDS, then-k-n-2-via-else-k-n-2+else-k-ge-MAX-WORDS+then-i-gt1}
+use Rattle.boolean.proofs.bools.BoolsAsBytes.slice_word.Goals.{then-k-n-2-via-then-k-n-2, then-k-n-2-via-else-k-n-2+then-k-ge-MAX_WORDS, then-k-n-2-via-else-k-n-2+else-k-ge-MAX_WORDS+then-i-gt1}
 
 pub returns-then-k-n : goal.returns-then-k-n
 returns-then-k-n g c = λ s.
     let b = c.args.self.now in
-    c.slice-word.ensures s.below
+    c.slice_word.ensures s.below
     ∙ sym (word_in_slice-left (g.C.AsBytes.slices b.values) (tail_slice b.tail.word b.tail.count ∷ []) c.args.k c.args.i (omega (arith, c.slices-n.ensures.count s.below)))
 
 pub returns-then-k-n-2 : goal.returns-then-k-n-2
@@ -23,12 +23,12 @@ returns-then-k-n-2 g c = λ s.
     let t = tail_slice b.tail.word b.tail.count in
     let n = c.slices-n.ensures.count s.below in
     let l = length_push ss t in
-    ap Err c.at-start.ensures
+    ap Err c.at_start.ensures
     ∙ sym
     (elim c.then-k-n-2.branch [
       | then-k-n-2-via-then-k-n-2 w ↦ word_in_slice-past (ss ++ t ∷ []) k i (omega arith)
-      | then-k-n-2-via-else-k-n-2+then-k-ge-MAX-WORDS w ↦ word_in_slice-past (ss ++ t ∷ []) k i (omega arith)
-      | then-k-n-2-via-else-k-n-2+else-k-ge-MAX-WORDS+then-i-gt1 w ↦
+      | then-k-n-2-via-else-k-n-2+then-k-ge-MAX_WORDS w ↦ word_in_slice-past (ss ++ t ∷ []) k i (omega arith)
+      | then-k-n-2-via-else-k-n-2+else-k-ge-MAX_WORDS+then-i-gt1 w ↦
           let z : k - length ss ≡ 0 = omega arith in
           word_in_slice-right ss (t ∷ []) k i (omega arith) (λ h. omega arith) ∙ ap (λ j. word_in_slice (t ∷ []) j i) z ∙ element-past (b.tail.word ∷ b.tail.count ∷ []) i (omega arith)
     ])

@@ -27,8 +27,8 @@ returns-then-count-lt63 g c =
       same = λ s. refl;
     }
 
-pub returns-in-err-push : goal.returns-in-err-push
-returns-in-err-push g c =
+pub returns-in_err-push : goal.returns-in_err-push
+returns-in_err-push g c =
     let b = c.args.self.now in
     let f = g.C.Index.list in
     let p = g.C.Index.sound in
@@ -38,16 +38,16 @@ returns-in-err-push g c =
     let v = c.push.new.self in
     let t = g.C.Column.takes in
     let a = g.C.Column.areas b.values in
-    let r = err_from_is_err_and c.from-residual.result c.from-residual.ensures.1 in
+    let r = err_from_is_err_and c.from_residual.result c.from_residual.ensures.1 in
     let no : p b.values → t a (f b.values) w ≡ false =
-    λ i. taken-err (t a (f b.values) w) c.in-err-push.field-0.0 (sym (c.push.ensures.answer i) ∙ c.in-err-push.was) in
+    λ i. taken-err (t a (f b.values) w) c.in_err-push.field-0.0 (sym (c.push.ensures.answer i) ∙ c.in_err-push.was) in
     let still : p b.values → f v ≡ f b.values = λ i. c.push.ensures.after i ∙ ap (λ d. pushed d (f b.values) w) (no i) in
     let below : BoolsSound f p b → t a (f b.values) w ≡ bools_takes t a (bools_list f b) x =
     λ s. sym (takes-full f p b s x n (omega (arith, s.tail.few)) (omega (arith, c.len.ensures s)) t a c.if-count-lt63.false) in
     record {
       keeps = λ s. sound-same f p b s v (c.push.ensures.keeps s.below) (still s.below);
       fitting = refl;
-      answer = λ s. r.1 ∙ ap Err r.2 ∙ sym c.in-err-push.was ∙ c.push.ensures.answer s.below ∙ ap push_answer (below s);
+      answer = λ s. r.1 ∙ ap Err r.2 ∙ sym c.in_err-push.was ∙ c.push.ensures.answer s.below ∙ ap push_answer (below s);
       after = λ s.
           ap (λ ws. held_bits ws b.tail.count b.tail.word) (still s.below)
           ∙ ap (λ d. pushed d (bools_list f b) x) (sym (no s.below) ∙ below s);
@@ -69,7 +69,7 @@ returns g c =
     let e : BoolsSound f p b → n ≡ b.tail.count = λ s. omega (arith, s.tail.few) in
     let room : BoolsSound f p b → length (bools_list f b) < L = λ s. omega (arith, c.len.ensures s) in
     let taken : p b.values → t a (f b.values) w ≡ true =
-    λ i. taken-ok (t a (f b.values) w) c.in-ok-push.field-0 (sym (c.push.ensures.answer i) ∙ c.in-ok-push.was) in
+    λ i. taken-ok (t a (f b.values) w) c.in_ok-push.field-0 (sym (c.push.ensures.answer i) ∙ c.in_ok-push.was) in
     let more : p b.values → f v ≡ f b.values ++ w ∷ [] = λ i. c.push.ensures.after i ∙ ap (λ d. pushed d (f b.values) w) (taken i) in
     let yes : BoolsSound f p b → true ≡ bools_takes t a (bools_list f b) x = λ s. sym (takes-full f p b s x n (e s) (room s) t a h ∙ taken s.below) in
     record {

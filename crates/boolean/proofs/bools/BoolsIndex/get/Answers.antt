@@ -6,7 +6,7 @@ use Rattle.column.proofs.ColumnLemmas.{element-past}
 use Rattle.boolean.proofs.bools.BoolsIndex.get.Goals as goal
 
 pub returns-then-i-len : goal.returns-then-i-len
-returns-then-i-len g c = λ s. ap Err c.at-start.ensures ∙ sym (element-past (bools_list g.C.Index.list c.args.self.now) c.args.i (omega (arith, c.len.ensures s)))
+returns-then-i-len g c = λ s. ap Err c.at_start.ensures ∙ sym (element-past (bools_list g.C.Index.list c.args.self.now) c.args.i (omega (arith, c.len.ensures s)))
 
 pub returns : goal.returns
 returns g c = λ s.

@@ -6,4 +6,4 @@ use Rattle.boolean.proofs.form.BoolsFromBytes.form_len.Goals as goal
 pub returns : goal.returns
 returns g c ws s =
     let b = below g.C.FromBytes.slices g.C.FromBytes.kept g.C.Kind.format c.args.form.now ws s in
-    omega (arith, c.form-len.ensures ws b.values, b.short, length-list _ _ _ _ _ b)
+    omega (arith, c.form_len.ensures ws b.values, b.short, length-list _ _ _ _ _ b)

@@ -13,13 +13,13 @@ returns-then-k-last g c ws s =
     let k = c.args.k in
     let b = below g.C.FromBytes.slices g.C.FromBytes.kept g.C.Kind.format c.args.form.now ws s in
     let n = length-given _ _ _ _ _ s c.lawful.ensures in
-    c.form-slice-len.ensures ws b.values
-    ∙ sym (ap (λ ss. slice_length ss k) b.giving ∙ slice_length-left _ _ k (omega (arith, n, c.slice-count-last.ensures)))
+    c.form_slice_len.ensures ws b.values
+    ∙ sym (ap (λ ss. slice_length ss k) b.giving ∙ slice_length-left _ _ k (omega (arith, n, c.slice_count-last.ensures)))
 
 pub returns-then-k-last-2 : goal.returns-then-k-last-2
 returns-then-k-last-2 g c ws s =
     let n = ((bools-laws _ c.lawful.ensures).given _ _ s.accepted).0.count in
-    ap Err c.at-start.ensures ∙ sym (slice_length-past _ c.args.k (omega (arith, n, c.then-k-last-2.either, c.slice-count-last.ensures)))
+    ap Err c.at_start.ensures ∙ sym (slice_length-past _ c.args.k (omega (arith, n, c.then-k-last-2.either, c.slice_count-last.ensures)))
 
 pub returns : goal.returns
 returns g c ws s =
@@ -29,7 +29,7 @@ returns g c ws s =
     let n = length-given _ _ _ _ _ s c.lawful.ensures in
     let gs = g.C.Kind.format.giving (g.C.FromBytes.slices t.values ws) in
     let ts = of_words (slice_in ws t.place).words ∷ [] in
-    let z : k - length gs ≡ 0 = omega (arith, n, c.slice-count-last.ensures) in
-    let r : c.saturating-mul.result ≡ 8 * words_for t.place.bytes = omega (arith, b.inside, c.words.ensures (omega (arith, b.inside))) in
+    let z : k - length gs ≡ 0 = omega (arith, n, c.slice_count-last.ensures) in
+    let r : c.saturating_mul.result ≡ 8 * words_for t.place.bytes = omega (arith, b.inside, c.words.ensures (omega (arith, b.inside))) in
     ap Ok r
-    ∙ sym (ap (λ ss. slice_length ss k) b.giving ∙ slice_length-right gs ts k (omega (arith, n, c.slice-count-last.ensures)) (λ h. omega arith) ∙ ap (slice_length ts) z ∙ tail-length ws t.place b.inside)
+    ∙ sym (ap (λ ss. slice_length ss k) b.giving ∙ slice_length-right gs ts k (omega (arith, n, c.slice_count-last.ensures)) (λ h. omega arith) ∙ ap (slice_length ts) z ∙ tail-length ws t.place b.inside)

@@ -15,13 +15,13 @@ returns-then-k-last g c s =
     let ws = g.S.Store.words c.args.store.now in
     let b = below g.C.FromBytes.slices g.C.FromBytes.kept g.C.Kind.format c.args.form.now ws s in
     let n = length-given _ _ _ _ _ s c.lawful.ensures in
-    c.form-slice-word.ensures b.values
-    ∙ sym (ap (λ ss. word_in_slice ss k i) b.giving ∙ word_in_slice-left _ _ k i (omega (arith, n, c.slice-count-last.ensures)))
+    c.form_slice_word.ensures b.values
+    ∙ sym (ap (λ ss. word_in_slice ss k i) b.giving ∙ word_in_slice-left _ _ k i (omega (arith, n, c.slice_count-last.ensures)))
 
 pub returns-then-k-last-2 : goal.returns-then-k-last-2
 returns-then-k-last-2 g c s =
     let n = ((bools-laws _ c.lawful.ensures).given _ _ s.accepted).0.count in
-    ap Err c.at-start.ensures ∙ sym (word_in_slice-past _ c.args.k c.args.i (omega (arith, n, c.then-k-last-2.either, c.slice-count-last.ensures)))
+    ap Err c.at_start.ensures ∙ sym (word_in_slice-past _ c.args.k c.args.i (omega (arith, n, c.then-k-last-2.either, c.slice_count-last.ensures)))
 
 pub returns : goal.returns
 returns g c s =
@@ -33,6 +33,6 @@ returns g c s =
     let n = length-given _ _ _ _ _ s c.lawful.ensures in
     let gs = g.C.Kind.format.giving (g.C.FromBytes.slices t.values ws) in
     let ts = of_words (slice_in ws t.place).words ∷ [] in
-    let z : k - length gs ≡ 0 = omega (arith, n, c.slice-count-last.ensures) in
+    let z : k - length gs ≡ 0 = omega (arith, n, c.slice_count-last.ensures) in
     c.word.ensures b.inside
-    ∙ sym (ap (λ ss. word_in_slice ss k i) b.giving ∙ word_in_slice-right gs ts k i (omega (arith, n, c.slice-count-last.ensures)) (λ h. omega arith) ∙ ap (λ j. word_in_slice ts j i) z ∙ tail-word ws t.place b.inside i)
+    ∙ sym (ap (λ ss. word_in_slice ss k i) b.giving ∙ word_in_slice-right gs ts k i (omega (arith, n, c.slice_count-last.ensures)) (λ h. omega arith) ∙ ap (λ j. word_in_slice ts j i) z ∙ tail-word ws t.place b.inside i)

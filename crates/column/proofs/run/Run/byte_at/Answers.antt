@@ -6,10 +6,10 @@ use Rattle.column.proofs.run.Run.byte_at.Goals as goal
 pub returns-in-Ok : goal.returns-in-Ok
 returns-in-Ok g c s =
     c.byte.ensures
-    ∙ byte-in g.T-as-Value.fits g.T.Element.codec g.met.T.Element.one_to_one (run_list c.args.self.now) s.fitting
+    ∙ byte-in g.T.Value.fits g.T.Element.codec g.met.T.Element.one_to_one (run_list c.args.self.now) s.fitting
     c.args.p c.size-size.result c.size-size.ensures c.in-Ok.x (c.in-Ok.ensures s)
 
 pub returns-in-Err : goal.returns-in-Err
 returns-in-Err g c s =
-    byte_past g.T-as-Value.fits g.T.Element.codec g.met.T.Element.one_to_one (run_list c.args.self.now) s.fitting
+    byte_past g.T.Value.fits g.T.Element.codec g.met.T.Element.one_to_one (run_list c.args.self.now) s.fitting
     c.args.p c.size-size.result c.size-size.ensures c.in-Err.field-0 (c.in-Err.ensures s)

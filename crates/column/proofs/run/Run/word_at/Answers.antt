@@ -10,8 +10,8 @@ loop-j-init g c s = word_none (flat_map g.T.Element.codec.bytes (run_list c.args
 pub loop-j-preserved : goal.loop-j-preserved
 loop-j-preserved g c s =
     word_more (flat_map g.T.Element.codec.bytes (run_list c.args.self.now)) c.args.i c.loop-j.j c.loop-j.word c.from.result
-    (run-strings g.T-as-Value.fits g.T.Element.codec g.met.T.Element.one_to_one c.args.self.now s)
-    c.loop-j-test.true c.loop-j.auto.j (c.loop-j.invariant s) (c.from.ensures ∙ c.byte-at.ensures s)
+    (run-strings g.T.Value.fits g.T.Element.codec g.met.T.Element.one_to_one c.args.self.now s)
+    c.loop-j-test.true c.loop-j.auto.j (c.loop-j.invariant s) (c.from.ensures ∙ c.byte_at.ensures s)
 
 pub returns : goal.returns
 returns g c s = let z : c.loop-j.j ≡ 0 = omega arith in rw z at (c.loop-j.invariant s)

@@ -6,5 +6,5 @@ use Rattle.column.proofs.run.RunAsBytes.slices.Goals as goal
 pub returns : goal.returns
 returns g c = record {
   count = λ _. refl;
-  formed = λ s. (of_bytes-formed _ (run-strings g.T-as-Value.fits g.T.Element.codec g.met.T.Element.one_to_one c.args.self.now s), tt);
+  formed = λ s. (of_bytes-formed _ (run-strings g.T.Value.fits g.T.Element.codec g.met.T.Element.one_to_one c.args.self.now s), tt);
 }

@@ -7,14 +7,14 @@ pub returns : goal.returns
 returns g c =
     let run = c.args.self.now in
     let room = c.if-self.false in
-    let few = c.if-self-ge-MAX-LEN.false in
+    let few = c.if-self-ge-MAX_LEN.false in
     let same = c.known-x.ensures.same in
     let fit = c.known-x.ensures.within in
     record {
       keeps = λ s. record {
         within = simp length-set (omega arith);
         short = omega arith;
-        fitting = write-fits run.cells.now run.len s.within g.T-as-Value.fits c.args.x c.known-x.result room same fit s.fitting;
+        fitting = write-fits run.cells.now run.len s.within g.T.Value.fits c.args.x c.known-x.result room same fit s.fitting;
       };
       fitting = fit;
       answer = λ s. rw (free run.cells.now run.len s.within room few);

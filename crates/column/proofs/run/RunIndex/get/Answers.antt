@@ -6,7 +6,7 @@ pub returns-then-i-self : goal.returns-then-i-self
 returns-then-i-self g c s =
     let run = c.args.self.now in
     let past : run.len ≤ c.args.i = omega (arith, s.within, c.then-i-self.either) in
-    ap Err c.at-start.ensures ∙ sym (read_past run.cells.now run.len s.within c.args.i past)
+    ap Err c.at_start.ensures ∙ sym (read_past run.cells.now run.len s.within c.args.i past)
 
 pub returns : goal.returns
 returns g c s =

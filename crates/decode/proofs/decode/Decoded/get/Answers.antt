@@ -6,29 +6,29 @@ use Rattle.decode.proofs.PartLemmas.{area-sound, part-found, part-refused, part-
 use Rattle.decode.proofs.decode.Decoded.get.Goals as goal
 use Rattle.decode.proofs.decode.Decoded.get.Goals.{then-lower-size-via-then-lower-size, then-lower-size-via-else-lower-size+then-span-size}
 
-pub returns-in-err-span : goal.returns-in-err-span
-returns-in-err-span c s =
+pub returns-in_err-span : goal.returns-in_err-span
+returns-in_err-span c s =
     let bs = c.args.self.now.bytes.now in
-    let e = ap join_words c.in-ok-area.ensures.1 in
-    let p = err_from_is_err_and c.from-residual-in-err-span.result c.from-residual-in-err-span.ensures.1 in
-    rw (p.1, p.2) (part-refused bs s.asked c.args.k _ (c.in-err-span.ensures.answer (area-sound bs s.asked _ _ e (c.len.ensures s) c.byte-count-size.ensures.whole) ∙ ap (λ ws. span_answer ws c.args.k) e))
+    let e = ap join_words c.in_ok-area.ensures.1 in
+    let p = err_from_is_err_and c.from_residual-in_err-span.result c.from_residual-in_err-span.ensures.1 in
+    rw (p.1, p.2) (part-refused bs s.asked c.args.k _ (c.in_err-span.ensures.answer (area-sound bs s.asked _ _ e (c.len.ensures s) c.byte_count-size.ensures.whole) ∙ ap (λ ws. span_answer ws c.args.k) e))
 
 pub returns-then-lower-size : goal.returns-then-lower-size
 returns-then-lower-size c s =
     let bs = c.args.self.now.bytes.now in
-    let e = ap join_words c.in-ok-area.ensures.1 in
-    let a : Ok c.in-ok-span.span ≡ span_answer (join_words bs) c.args.k =
-    c.in-ok-span.ensures.answer (area-sound bs s.asked _ _ e (c.len.ensures s) c.byte-count-size.ensures.whole) ∙ ap (λ ws. span_answer ws c.args.k) e in
-    let w = part-within bs s.asked c.args.k c.in-ok-span.span a in
-    let n = c.byte-count-size.ensures.count in
+    let e = ap join_words c.in_ok-area.ensures.1 in
+    let a : Ok c.in_ok-span.span ≡ span_answer (join_words bs) c.args.k =
+    c.in_ok-span.ensures.answer (area-sound bs s.asked _ _ e (c.len.ensures s) c.byte_count-size.ensures.whole) ∙ ap (λ ws. span_answer ws c.args.k) e in
+    let w = part-within bs s.asked c.args.k c.in_ok-span.span a in
+    let n = c.byte_count-size.ensures.count in
     absurd (elim c.then-lower-size.branch [ then-lower-size-via-then-lower-size v ↦ omega arith | then-lower-size-via-else-lower-size+then-span-size v ↦ omega arith ])
 
 pub returns : goal.returns
 returns c s =
     let bs = c.args.self.now.bytes.now in
-    let e = ap join_words c.in-ok-area.ensures.1 in
-    let a : Ok c.in-ok-span.span ≡ span_answer (join_words bs) c.args.k =
-    c.in-ok-span.ensures.answer (area-sound bs s.asked _ _ e (c.len.ensures s) c.byte-count-size.ensures.whole) ∙ ap (λ ws. span_answer ws c.args.k) e in
-    let w = part-within bs s.asked c.args.k c.in-ok-span.span a in
-    let p = c.saturating-mul-lower.result in
-    part-found bs s.asked c.args.k c.in-ok-span.span a p (p + c.in-ok-span.span.bytes - p) c.byte-count-size.ensures.whole (omega arith) (omega arith)
+    let e = ap join_words c.in_ok-area.ensures.1 in
+    let a : Ok c.in_ok-span.span ≡ span_answer (join_words bs) c.args.k =
+    c.in_ok-span.ensures.answer (area-sound bs s.asked _ _ e (c.len.ensures s) c.byte_count-size.ensures.whole) ∙ ap (λ ws. span_answer ws c.args.k) e in
+    let w = part-within bs s.asked c.args.k c.in_ok-span.span a in
+    let p = c.saturating_mul-lower.result in
+    part-found bs s.asked c.args.k c.in_ok-span.span a p (p + c.in_ok-span.span.bytes - p) c.byte_count-size.ensures.whole (omega arith) (omega arith)

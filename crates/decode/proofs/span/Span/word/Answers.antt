@@ -7,16 +7,16 @@ use Rattle.decode.proofs.span.Span.word.Goals as goal
 pub returns-then-i-words : goal.returns-then-i-words
 returns-then-i-words g c i =
     let n = c.words.ensures (omega arith) in
-    ap Err c.at-start.ensures ∙ element-after (g.S.Store.words c.args.store.now) c.args.self i c.args.i (omega arith)
+    ap Err c.at_start.ensures ∙ element-after (g.S.Store.words c.args.store.now) c.args.self i c.args.i (omega arith)
 
 pub returns-in-Some : goal.returns-in-Some
 returns-in-Some g c i =
     let ws = g.S.Store.words c.args.store.now in
     let n = c.words.ensures (omega arith) in
-    let p : c.saturating-add.result ≡ c.args.self.from + c.args.i = omega arith in
+    let p : c.saturating_add.result ≡ c.args.self.from + c.args.i = omega arith in
     element-span ws c.args.self i c.args.i c.in-Some.word (omega arith) (subst (λ k. Some c.in-Some.word ≡ word_at ws k) p c.in-Some.ensures)
 
 pub returns-in-None : goal.returns-in-None
 returns-in-None g c i =
     let n = c.words.ensures (omega arith) in
-    absurd (omega (arith, word_at-none (g.S.Store.words c.args.store.now) c.saturating-add.result c.in-None.ensures))
+    absurd (omega (arith, word_at-none (g.S.Store.words c.args.store.now) c.saturating_add.result c.in-None.ensures))

@@ -18,5 +18,5 @@ pub returns : goal.returns
 returns g c h =
     let t = c.args.form.now in
     let ws = g.S.Store.words c.args.store.now in
-    c.form-get.ensures (bounds-stand t ws h)
+    c.form_get.ensures (bounds-stand t ws h)
     ∙ sym (ap (λ xs. element xs c.args.i) (strides-is t ws h) ∙ element-bounds t.stride t.length (list_of word_run (slice_in ws t.bounds ∷ [])) c.args.i c.if-i-length.false)

@@ -11,7 +11,7 @@ returns c ws h =
     let t = c.args.form.now in
     omega (
       arith,
-      c.form-len.ensures ws (bounds-stand t ws h),
+      c.form_len.ensures ws (bounds-stand t ws h),
       strides-short t ws h,
       ap length (strides-is t ws h),
       length-stands t.stride t.length (list_of word_run (slice_in ws t.bounds ∷ [])),

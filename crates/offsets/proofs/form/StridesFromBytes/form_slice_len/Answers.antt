@@ -5,4 +5,4 @@ use Rattle.offsets.proofs.form.StridesFromBytes.form_slice_len.Goals as goal
 pub returns-then-k-gt0 : goal.returns-then-k-gt0
 returns-then-k-gt0 c ws h =
     let t = c.args.form.now in
-    c.form-slice-len.ensures ws (bounds-stand t ws h) ∙ bounds-length t ws h c.args.k c.if-k-gt0.true
+    c.form_slice_len.ensures ws (bounds-stand t ws h) ∙ bounds-length t ws h c.args.k c.if-k-gt0.true

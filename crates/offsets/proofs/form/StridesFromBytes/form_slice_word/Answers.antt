@@ -6,4 +6,4 @@ pub returns-then-k-gt0 : goal.returns-then-k-gt0
 returns-then-k-gt0 g c h =
     let t = c.args.form.now in
     let ws = g.S.Store.words c.args.store.now in
-    c.form-slice-word.ensures (bounds-stand t ws h) ∙ bounds-word t ws h c.args.k c.if-k-gt0.true c.args.i
+    c.form_slice_word.ensures (bounds-stand t ws h) ∙ bounds-word t ws h c.args.k c.if-k-gt0.true c.args.i

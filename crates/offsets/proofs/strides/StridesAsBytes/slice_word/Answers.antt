@@ -5,7 +5,7 @@ use Rattle.offsets.proofs.StridesLemmas.{slice-word, head-word}
 use Rattle.offsets.proofs.strides.StridesAsBytes.slice_word.Goals as goal
 
 pub returns-then-k-gt0 : goal.returns-then-k-gt0
-returns-then-k-gt0 c h = c.slice-word.ensures h.run ∙ slice-word c.args.self.now h c.args.k c.args.i c.if-k-gt0.true
+returns-then-k-gt0 c h = c.slice_word.ensures h.run ∙ slice-word c.args.self.now h c.args.k c.args.i c.if-k-gt0.true
 
 pub returns-in-0 : goal.returns-in-0
 returns-in-0 c h =
@@ -17,8 +17,8 @@ returns-in-1 c h =
     let column = c.args.self.now in
     ap (element (column.head.stride ∷ column.head.length ∷ [])) (sym c.in-1.is) ∙ head-word column h c.args.k c.args.i c.if-k-gt0.false
 
-pub returns-in-default : goal.returns-in-default
-returns-in-default c h =
+pub returns-in_default : goal.returns-in_default
+returns-in_default c h =
     let column = c.args.self.now in
     let past : 2 ≤ c.args.i = omega arith in
-    ap Err c.at-start.ensures ∙ sym (element-past (column.head.stride ∷ column.head.length ∷ []) c.args.i past) ∙ head-word column h c.args.k c.args.i c.if-k-gt0.false
+    ap Err c.at_start.ensures ∙ sym (element-past (column.head.stride ∷ column.head.length ∷ []) c.args.i past) ∙ head-word column h c.args.k c.args.i c.if-k-gt0.false

@@ -6,4 +6,4 @@ use Rattle.offsets.proofs.strides.StridesIndex.len.Goals as goal
 pub returns : goal.returns
 returns c h =
     let column = c.args.self.now in
-    omega (arith, c.saturating-add.ensures, c.len.ensures h.run, h.held.1, length-stands column.head.stride column.head.length (run_list column.bounds))
+    omega (arith, c.saturating_add.ensures, c.len.ensures h.run, h.held.1, length-stands column.head.stride column.head.length (run_list column.bounds))

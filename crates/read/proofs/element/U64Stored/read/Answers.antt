@@ -6,5 +6,5 @@ use Rattle.read.proofs.element.U64Stored.read.Goals as goal
 pub returns : goal.returns
 returns g c h =
     let ws = g.S.Store.words c.args.store.now in
-    let p : c.saturating-add.result ≡ c.args.from + c.args.i = omega arith in
+    let p : c.saturating_add.result ≡ c.args.from + c.args.i = omega arith in
     c.word.ensures ∙ ap (word_at ws) p ∙ word-stored ws c.args.from c.args.i (omega arith) c.count.ensures.whole

@@ -3,9 +3,9 @@ use Rattle.read.specs.Form.{element_at}
 use Rattle.read.proofs.RunFormLemmas.{run_at, run_past, run_room}
 use Rattle.read.proofs.run.RunFromBytes.form_get.Goals as goal
 
-pub returns-then-i-count-in : goal.returns-then-i-count-in
-returns-then-i-count-in g c h =
-    ap Err c.at-start.ensures
+pub returns-then-i-count_in : goal.returns-then-i-count_in
+returns-then-i-count_in g c h =
+    ap Err c.at_start.ensures
     ∙ run_past g.row.T-Value.fits g.T.Element.codec g.met.T.Element.one_to_one c.args.form.now (g.S.Store.words c.args.store.now) h c.args.i (omega arith)
 
 pub returns-in-Some : goal.returns-in-Some

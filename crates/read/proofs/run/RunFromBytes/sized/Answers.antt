@@ -14,8 +14,8 @@ returns-then-size-eq0 g c t =
     let d = c.args.image.now in
     let b = (slot (slices_within f d c.args.at 1) 0).bytes in
     let n = g.T.Element.codec.size in
-    let e : c.in-ok-span.span.bytes ≡ b =
-    ap (λ s. s.bytes) (got f d c.args.at 1 t 0 c.args.at (omega arith) (omega arith) c.in-ok-span.span (c.in-ok-span.ensures.answer t.decoded)).1 in
+    let e : c.in_ok-span.span.bytes ≡ b =
+    ap (λ s. s.bytes) (got f d c.args.at 1 t 0 c.args.at (omega arith) (omega arith) c.in_ok-span.span (c.in_ok-span.ensures.answer t.decoded)).1 in
     let ne : b % n ≡ 0 → ⊥ = λ z. elim c.then-size-eq0.branch [
       | then-size-eq0-via-then-size-eq0 w ↦ omega (arith, g.met.T.Element.one_to_one.positive)
       | then-size-eq0-via-else-size-eq0+then-span-size-ne0 w ↦ w.if-span-size-ne0.true (cc)
@@ -26,5 +26,5 @@ pub returns : goal.returns
 returns g c t =
     let f = g.S.Store.words in
     let d = c.args.image.now in
-    let e = ap (λ s. s.bytes) (got f d c.args.at 1 t 0 c.args.at (omega arith) (omega arith) c.in-ok-span.span (c.in-ok-span.ensures.answer t.decoded)).1 in
+    let e = ap (λ s. s.bytes) (got f d c.args.at 1 t 0 c.args.at (omega arith) (omega arith) c.in_ok-span.span (c.in_ok-span.ensures.answer t.decoded)).1 in
     size-passes c.args.at (eqb ((slot (slices_within f d c.args.at 1) 0).bytes % g.T.Element.codec.size) 0) 0 (eq-eqb _ 0 (cc))

@@ -6,9 +6,9 @@ use Rattle.storage.proofs.store.ByteAreaStore.count.Goals as goal
 pub returns : goal.returns
 returns c =
     let bs = c.args.self.now.bytes.now in
-    let h = c.byte-count.ensures.count in
+    let h = c.byte_count.ensures.count in
     let l = length-join_words bs in
     record {
       count = cc;
-      whole = chunks-under 256 8 (length bs / 8) bs (lit< tt) c.byte-count.ensures.whole;
+      whole = chunks-under 256 8 (length bs / 8) bs (lit< tt) c.byte_count.ensures.whole;
     }

@@ -11,8 +11,8 @@ use Rattle.storage.proofs.write.WordSinkWriteBytes.write_all.Goals.{then-j-lt7, 
 abbrev place : WordSink → ℕ
 place s = 8 * s.at + s.part % 8
 
-pub returns-then-bytes-saturating-sub : goal.returns-then-bytes-saturating-sub
-returns-then-bytes-saturating-sub c =
+pub returns-then-bytes-saturating_sub : goal.returns-then-bytes-saturating_sub
+returns-then-bytes-saturating_sub c =
     let s = c.args.self.now in
     let bs = c.args.bytes.now in
     let room = length (spill s.area.now) - place s in
@@ -36,7 +36,7 @@ loop-i-preserved c =
     let bs = c.args.bytes.now in
     let t = c.loop-i in
     let fits : length bs ≤ length (spill s.area.now) - place s = omega (arith, length-spill s.area.now) in
-    let more = written-more-word s.area.now (place s) bs t.self.area.now t.i t.self.at (t.self.part % 8) c.with-byte.result t.invariant.0 t.invariant.1 c.loop-i-test.true fits (omega arith) c.with-byte.ensures in
+    let more = written-more-word s.area.now (place s) bs t.self.area.now t.i t.self.at (t.self.part % 8) c.with_byte.result t.invariant.0 t.invariant.1 c.loop-i-test.true fits (omega arith) c.with_byte.ensures in
     elim c.if-j-lt7.branch [
       | then-j-lt7 w ↦ rw w.self-is (more, omega arith)
       | else-j-lt7 w ↦ rw w.self-is (more, omega arith)

@@ -5,13 +5,13 @@ use Rattle.tuple.proofs.EmptiesLemmas.{empty-full, empty-room}
 use Rattle.tuple.proofs.empties.EmptiesColumn.push.Goals as goal
 
 -- src/empties.rt:96:13
-pub returns-then-self-ge-MAX-LEN : goal.returns-then-self-ge-MAX-LEN
-returns-then-self-ge-MAX-LEN c =
-    let full = sym (empty-full none c.args.self.now.count tt c.if-self-ge-MAX-LEN.true) in
+pub returns-then-self-ge-MAX_LEN : goal.returns-then-self-ge-MAX_LEN
+returns-then-self-ge-MAX_LEN c =
+    let full = sym (empty-full none c.args.self.now.count tt c.if-self-ge-MAX_LEN.true) in
     record {
       keeps = λ s. s;
       fitting = refl;
-      answer = λ s. ap Err c.at-start.ensures ∙ ap push_answer full;
+      answer = λ s. ap Err c.at_start.ensures ∙ ap push_answer full;
       after = λ s. ap (λ b. pushed b (replicate c.args.self.now.count tt) tt) full;
       same = λ s. refl;
     }
@@ -19,7 +19,7 @@ returns-then-self-ge-MAX-LEN c =
 -- src/empties.rt:94:5
 pub returns : goal.returns
 returns c =
-    let room = sym (empty-room none c.args.self.now.count tt c.if-self-ge-MAX-LEN.false) in
+    let room = sym (empty-room none c.args.self.now.count tt c.if-self-ge-MAX_LEN.false) in
     record {
       keeps = λ s. omega arith;
       fitting = refl;

@@ -4,7 +4,7 @@ use Rattle.tuple.proofs.empties.EmptiesIndex.get.Goals as goal
 
 -- src/empties.rt:43:13
 pub returns-then-i-self : goal.returns-then-i-self
-returns-then-i-self c = λ s. ap Err c.at-start.ensures ∙ sym (empty-past c.args.self.now.count c.args.i c.if-i-self.true)
+returns-then-i-self c = λ s. ap Err c.at_start.ensures ∙ sym (empty-past c.args.self.now.count c.args.i c.if-i-self.true)
 
 -- src/empties.rt:41:5
 pub returns : goal.returns

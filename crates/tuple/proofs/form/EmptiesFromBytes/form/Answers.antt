@@ -9,30 +9,30 @@ use Rattle.std.proofs.lemmas.Bool.{le-leb, lt-leb}
 use Rattle.tuple.specs.Form.{EmptiesKept}
 use Rattle.tuple.proofs.form.EmptiesFromBytes.form.Goals as goal
 
-pub returns-in-err-place : goal.returns-in-err-place
-returns-in-err-place g c t z = absurd (no_place g.S.Store.words c.args.image.now c.args.at 1 t 0 c.args.at (omega arith) (omega arith) c.in-err-place.field-0.0 c.in-err-place.ensures.answer)
+pub returns-in_err-place : goal.returns-in_err-place
+returns-in_err-place g c t z = absurd (no_place g.S.Store.words c.args.image.now c.args.at 1 t 0 c.args.at (omega arith) (omega arith) c.in_err-place.field-0.0 c.in_err-place.ensures.answer)
 
-pub returns-in-err-count : goal.returns-in-err-count
-returns-in-err-count g c t z =
+pub returns-in_err-count : goal.returns-in_err-count
+returns-in_err-count g c t z =
     let f = g.S.Store.words in
     let d = c.args.image.now in
-    let p = place f d c.args.at 1 t 0 c.args.at (omega arith) (omega arith) c.in-ok-place.place c.in-ok-place.ensures.answer in
-    absurd (no_word f d c.args.at 1 t 0 c.in-ok-place.place p (f c.store.result.now) (ap f c.store.ensures) 0 c.in-err-count.field-0.0 c.in-err-count.ensures (omega (arith, least-words 1 0 (slot (slices_within f d c.args.at 1) 0) z)))
+    let p = place f d c.args.at 1 t 0 c.args.at (omega arith) (omega arith) c.in_ok-place.place c.in_ok-place.ensures.answer in
+    absurd (no_word f d c.args.at 1 t 0 c.in_ok-place.place p (f c.store.result.now) (ap f c.store.ensures) 0 c.in_err-count.field-0.0 c.in_err-count.ensures (omega (arith, least-words 1 0 (slot (slices_within f d c.args.at 1) 0) z)))
 
 pub returns-then-count : goal.returns-then-count
 returns-then-count g c t z =
     let f = g.S.Store.words in
     let d = c.args.image.now in
-    let p = place f d c.args.at 1 t 0 c.args.at (omega arith) (omega arith) c.in-ok-place.place c.in-ok-place.ensures.answer in
-    let w = word-there f d c.args.at 1 t 0 c.in-ok-place.place p (f c.store.result.now) (ap f c.store.ensures) 0 c.in-ok-count.count c.in-ok-count.ensures in
+    let p = place f d c.args.at 1 t 0 c.args.at (omega arith) (omega arith) c.in_ok-place.place c.in_ok-place.ensures.answer in
+    let w = word-there f d c.args.at 1 t 0 c.in_ok-place.place p (f c.store.result.now) (ap f c.store.ensures) 0 c.in_ok-count.count c.in_ok-count.ensures in
     bounds-err (λ u vs. slice_in vs u.place ∷ []) EmptiesKept (f d.store.now) (slices_within f d c.args.at 1) c.args.at _ _ _ (lt-leb _ _ (omega (arith, w))) c.at.ensures
 
 pub returns : goal.returns
 returns g c t z =
     let f = g.S.Store.words in
     let d = c.args.image.now in
-    let p = place f d c.args.at 1 t 0 c.args.at (omega arith) (omega arith) c.in-ok-place.place c.in-ok-place.ensures.answer in
-    let w = word-there f d c.args.at 1 t 0 c.in-ok-place.place p (f c.store.result.now) (ap f c.store.ensures) 0 c.in-ok-count.count c.in-ok-count.ensures in
+    let p = place f d c.args.at 1 t 0 c.args.at (omega arith) (omega arith) c.in_ok-place.place c.in_ok-place.ensures.answer in
+    let w = word-there f d c.args.at 1 t 0 c.in_ok-place.place p (f c.store.result.now) (ap f c.store.ensures) 0 c.in_ok-count.count c.in_ok-count.ensures in
     bounds_ok (λ u vs. slice_in vs u.place ∷ []) EmptiesKept (f d.store.now) (slices_within f d c.args.at 1) c.args.at _ _ _ (le-leb _ _ (omega (arith, w)))
     (record { inside = p.inside; count = w ∙ ap (λ s. word_of s 0) (sym p.slice) })
     (ap (λ s. s ∷ []) p.slice ∙ slices-last f d c.args.at 0 t)

@@ -7,7 +7,7 @@ use Rattle.tuple.proofs.form.EmptiesFromBytes.form_get.Goals as goal
 pub returns-then-i-form : goal.returns-then-i-form
 returns-then-i-form g c s =
     let t = c.args.form.now in
-    ap Err c.at-start.ensures ∙ sym (empty-past t.count c.args.i c.if-i-form.true) ∙ ap (λ xs. element xs c.args.i) (empties-list t _ s)
+    ap Err c.at_start.ensures ∙ sym (empty-past t.count c.args.i c.if-i-form.true) ∙ ap (λ xs. element xs c.args.i) (empties-list t _ s)
 
 pub returns : goal.returns
 returns g c s =

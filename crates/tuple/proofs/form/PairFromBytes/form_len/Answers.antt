@@ -6,4 +6,4 @@ use Rattle.tuple.proofs.form.PairFromBytes.form_len.Goals as goal
 pub returns : goal.returns
 returns g c ws s =
     let b = apart _ _ _ _ g.A.Kind.format g.B.Kind.format c.args.form.now ws s in
-    c.form-len.ensures ws b.left ∙ sym (length-tuples _ _ b.level) ∙ ap length b.list
+    c.form_len.ensures ws b.left ∙ sym (length-tuples _ _ b.level) ∙ ap length b.list

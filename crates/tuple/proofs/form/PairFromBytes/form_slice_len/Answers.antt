@@ -9,7 +9,7 @@ returns-then-k-n g c ws s =
     let k = c.args.k in
     let b = apart g.A.FromBytes.slices g.B.FromBytes.slices g.A.FromBytes.kept g.B.FromBytes.kept g.A.Kind.format g.B.Kind.format c.args.form.now ws s in
     let n = (c.lawful.ensures.given _ _ b.left.accepted).0.count in
-    c.form-slice-len.ensures ws b.left ∙ sym (ap (λ ss. slice_length ss k) b.giving ∙ slice_length-left _ _ k (omega (arith, n, c.slice-count-n.ensures)))
+    c.form_slice_len.ensures ws b.left ∙ sym (ap (λ ss. slice_length ss k) b.giving ∙ slice_length-left _ _ k (omega (arith, n, c.slice_count-n.ensures)))
 
 pub returns : goal.returns
 returns g c ws s =
@@ -18,7 +18,7 @@ returns g c ws s =
     let ls = g.A.Kind.format.giving (g.A.FromBytes.slices c.args.form.now.first ws) in
     let rs = g.B.Kind.format.giving (g.B.FromBytes.slices c.args.form.now.second ws) in
     let n = (c.lawful.ensures.given _ _ b.left.accepted).0.count in
-    let e : c.slice-count-n.result ≡ length ls = omega (arith, n, c.slice-count-n.ensures) in
-    c.form-slice-len-2.ensures ws b.right
+    let e : c.slice_count-n.result ≡ length ls = omega (arith, n, c.slice_count-n.ensures) in
+    c.form_slice_len-2.ensures ws b.right
     ∙ ap (λ m. slice_length rs (k - m)) e
     ∙ sym (ap (λ ss. slice_length ss k) b.giving ∙ slice_length-right ls rs k (omega (arith, e)) (λ h. omega arith))

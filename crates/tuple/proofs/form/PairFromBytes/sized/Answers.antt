@@ -7,16 +7,16 @@ use Rattle.read.proofs.FormLemmas.{size-passed, there-few}
 use Rattle.read.proofs.PlaceLemmas.{size-err, size-right, slices-left, slices-right, there-left, there-right}
 use Rattle.tuple.proofs.form.PairFromBytes.sized.Goals as goal
 
-pub returns-in-err-sized : goal.returns-in-err-sized
-returns-in-err-sized g c t =
+pub returns-in_err-sized : goal.returns-in_err-sized
+returns-in_err-sized g c t =
     let F = g.A.Kind.format in
     let n = g.B.Kind.format.slots in
     let f = g.S.Store.words in
     let d = c.args.image.now in
     let a = c.args.at in
-    let p = err_from_is_err_and c.from-residual.result c.from-residual.ensures.1 in
+    let p = err_from_is_err_and c.from_residual.result c.from_residual.ensures.1 in
     let l = slices-left f d a F.slots n in
-    p.1 ∙ ap Err p.2 ∙ size-err a _ _ _ (c.in-err-sized.ensures (there-left f d a F.slots n t) ∙ ap (λ ss. size_answer a (F.sized ss)) (sym l))
+    p.1 ∙ ap Err p.2 ∙ size-err a _ _ _ (c.in_err-sized.ensures (there-left f d a F.slots n t) ∙ ap (λ ss. size_answer a (F.sized ss)) (sym l))
 
 pub returns : goal.returns
 returns g c t =
@@ -25,11 +25,11 @@ returns g c t =
     let f = g.S.Store.words in
     let d = c.args.image.now in
     let a = c.args.at in
-    let b = c.saturating-add.result in
-    let e : b ≡ a + F.slots = omega (arith, there-few f d a (F.slots + G.slots) t, c.slice-count.ensures) in
+    let b = c.saturating_add.result in
+    let e : b ≡ a + F.slots = omega (arith, there-few f d a (F.slots + G.slots) t, c.slice_count.ensures) in
     let l = slices-left f d a F.slots G.slots in
     let r = slices-right f d a F.slots G.slots b e in
-    let o = size-passed a _ _ (c.in-ok-sized.ensures (there-left f d a F.slots G.slots t) ∙ ap (λ ss. size_answer a (F.sized ss)) (sym l)) in
+    let o = size-passed a _ _ (c.in_ok-sized.ensures (there-left f d a F.slots G.slots t) ∙ ap (λ ss. size_answer a (F.sized ss)) (sym l)) in
     c.sized-2.ensures (there-right f d a F.slots G.slots b e t)
     ∙ ap (λ ss. size_answer b (G.sized ss)) (sym r)
     ∙ size-right a F.slots b _ e

@@ -9,16 +9,16 @@ pub returns-then-not-takes : goal.returns-then-not-takes
 returns-then-not-takes g c = record {
   keeps = λ s. s;
   fitting = c.known.ensures.within;
-  answer = λ s. ap Err c.at-start.ensures ∙ ap push_answer (sym c.if-not-takes.true ∙ c.takes.ensures s);
+  answer = λ s. ap Err c.at_start.ensures ∙ ap push_answer (sym c.if-not-takes.true ∙ c.takes.ensures s);
   after = λ s. ap (λ t. pushed t (pair_list g.A.Index.list g.B.Index.list c.args.self.now) c.args.x) (sym c.if-not-takes.true ∙ c.takes.ensures s);
   same = λ s. refl;
 }
 
 -- src/pair.rt:117:9
-pub returns-in-err-push : goal.returns-in-err-push
-returns-in-err-push g c =
+pub returns-in_err-push : goal.returns-in_err-push
+returns-in_err-push g c =
     let no : PairSound g.A.Index.list g.B.Index.list g.A.Index.sound g.B.Index.sound c.args.self.now → ⊥ = λ s.
-    not-refused _ c.push.result c.in-err-push.field-0.0 (both-taken g.A.Column.takes g.B.Column.takes (g.A.Column.areas c.args.self.now.first) (g.B.Column.areas c.args.self.now.second) (g.A.Index.list c.args.self.now.first) (g.B.Index.list c.args.self.now.second) c.args.x s.level (sym c.if-not-takes.false ∙ c.takes.ensures s)).0 (c.push.ensures.answer s.left) c.in-err-push.was in
+    not-refused _ c.push.result c.in_err-push.field-0.0 (both-taken g.A.Column.takes g.B.Column.takes (g.A.Column.areas c.args.self.now.first) (g.B.Column.areas c.args.self.now.second) (g.A.Index.list c.args.self.now.first) (g.B.Index.list c.args.self.now.second) c.args.x s.level (sym c.if-not-takes.false ∙ c.takes.ensures s)).0 (c.push.ensures.answer s.left) c.in_err-push.was in
     record {
       keeps = λ s. absurd (no s);
       fitting = c.known.ensures.within;

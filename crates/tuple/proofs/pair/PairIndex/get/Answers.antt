@@ -4,18 +4,18 @@ use Rattle.tuple.proofs.PairLemmas.{element-tuples, tuples-past-left, tuples-pas
 use Rattle.tuple.proofs.pair.PairIndex.get.Goals as goal
 
 -- src/pair.rt:46:17
-pub returns-in-err-x : goal.returns-in-err-x
-returns-in-err-x g c = λ s.
-    let p = err_from_is_err_and c.from-residual.result c.from-residual.ensures.1 in
-    p.1 ∙ ap Err p.2 ∙ sym (tuples-past-left (g.A.Index.list c.args.self.now.first) (g.B.Index.list c.args.self.now.second) c.args.i c.in-err-x.field-0.0 s.level (sym (c.in-err-x.ensures s.left)))
+pub returns-in_err-x : goal.returns-in_err-x
+returns-in_err-x g c = λ s.
+    let p = err_from_is_err_and c.from_residual.result c.from_residual.ensures.1 in
+    p.1 ∙ ap Err p.2 ∙ sym (tuples-past-left (g.A.Index.list c.args.self.now.first) (g.B.Index.list c.args.self.now.second) c.args.i c.in_err-x.field-0.0 s.level (sym (c.in_err-x.ensures s.left)))
 
 -- src/pair.rt:47:17
-pub returns-in-err-y : goal.returns-in-err-y
-returns-in-err-y g c = λ s.
-    let p = err_from_is_err_and c.from-residual-in-err-y.result c.from-residual-in-err-y.ensures.1 in
-    p.1 ∙ ap Err p.2 ∙ sym (tuples-past-right (g.A.Index.list c.args.self.now.first) (g.B.Index.list c.args.self.now.second) c.args.i c.in-err-y.field-0.0 s.level (sym (c.in-err-y.ensures s.right)))
+pub returns-in_err-y : goal.returns-in_err-y
+returns-in_err-y g c = λ s.
+    let p = err_from_is_err_and c.from_residual-in_err-y.result c.from_residual-in_err-y.ensures.1 in
+    p.1 ∙ ap Err p.2 ∙ sym (tuples-past-right (g.A.Index.list c.args.self.now.first) (g.B.Index.list c.args.self.now.second) c.args.i c.in_err-y.field-0.0 s.level (sym (c.in_err-y.ensures s.right)))
 
 -- src/pair.rt:45:5
 pub returns : goal.returns
 returns g c = λ s.
-    sym (element-tuples (g.A.Index.list c.args.self.now.first) (g.B.Index.list c.args.self.now.second) c.args.i c.in-ok-x.x c.in-ok-y.y (sym (c.in-ok-x.ensures s.left)) (sym (c.in-ok-y.ensures s.right)))
+    sym (element-tuples (g.A.Index.list c.args.self.now.first) (g.B.Index.list c.args.self.now.second) c.args.i c.in_ok-x.x c.in_ok-y.y (sym (c.in_ok-x.ensures s.left)) (sym (c.in_ok-y.ensures s.right)))
