@@ -6,8 +6,8 @@ ghost use Rattle.decode.specs.Decode.{DecodedSound, Inside, decoded_answer, ends
 
 use crate::span::Span;
 use area::fault::{Fault, Refusal};
-use storage::store::Store;
 use column::kind::MAX_WORDS;
+use storage::store::Store;
 
 // A store that holds `count` slices.
 #[derive(Clone, Copy)]
