@@ -2,8 +2,8 @@
 ghost use Rattle.std.specs.Prelude.{◌≡◌, suc, ◌+◌, ◌*◌, ◌≤◌, length, Some};
 ghost use Rattle.read.specs.Form.{element_at};
 
-use storage::store::Store;
 use column::element::{Element, Value};
+use storage::store::Store;
 
 // An element that can be read where it stands.
 pub trait Stored: Element {

@@ -5,10 +5,10 @@ ghost use Rattle.column.specs.Column.{element, slice_length, word_in_slice};
 ghost use Rattle.read.specs.Form.{Stands, There, form_answer, list_of, size_answer, slices_within, words_in};
 
 use area::fault::Fault;
-use storage::store::Store;
 use column::element::Value;
 use column::kind::Kind;
 use decode::decoded::DecodedStore;
+use storage::store::Store;
 
 // A kind with its read form, which keeps the places of accepted slices and is lent their store.
 pub trait FromBytes: Kind {

@@ -5,12 +5,12 @@ ghost use Rattle.decode.specs.Decode.{Inside, slice_in};
 use crate::element::Stored;
 use crate::form::FromBytes;
 use area::fault::{Fault, Refusal};
-use storage::store::Store;
 use column::element::Element;
 use column::kind::{Kind, MAX_LEN};
 use column::run::Run;
 use decode::decoded::DecodedStore;
 use decode::span::Span;
+use storage::store::Store;
 
 // How many elements so many bytes hold.
 fn count_in<T: Element>(bytes: usize) -> usize

@@ -4,9 +4,9 @@ ghost use Rattle.read.specs.Admission.{admitted};
 
 use crate::form::FromBytes;
 use area::fault::Fault;
-use storage::store::Store;
 use column::kind::Kind;
 use decode::decoded::DecodedStore;
+use storage::store::Store;
 
 // The read form of an image that passes questions 1 to 9, or the first that it fails.
 pub fn validate<K: FromBytes, S: Store>(store: &S) -> Result<K::Form, Fault>

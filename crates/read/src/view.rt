@@ -4,8 +4,8 @@ ghost use Rattle.read.specs.Form.{Stands, list_of};
 
 use crate::form::FromBytes;
 use area::fault::Fault;
-use storage::store::Store;
 use column::kind::{AsBytes, Index};
+use storage::store::Store;
 
 #[derive(Drop)]
 pub struct View<'f, 's, K: FromBytes, S: Store> {

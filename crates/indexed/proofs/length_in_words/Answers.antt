@@ -15,8 +15,8 @@ pub returns-in_err-slice_len : goal.returns-in_err-slice_len
 returns-in_err-slice_len g c s =
     exit-long (g.A.AsBytes.slices c.args.item.now) c.loop-k.k c.in_err-slice_len.field-0.0 c.from_residual.ensures.1 (c.slices-count.ensures.formed s) (omega (arith, c.slices-count.ensures.count s)) (c.in_err-slice_len.ensures s)
 
-pub overflow-sub-total : goal.overflow-sub-total
-overflow-sub-total g c = c.loop-k.invariant.0
+pub overflow_sub-total : goal.overflow_sub-total
+overflow_sub-total g c = c.loop-k.invariant.0
 
 pub returns-then-words-total : goal.returns-then-words-total
 returns-then-words-total g c s =
@@ -24,8 +24,8 @@ returns-then-words-total g c s =
     too_long (g.A.AsBytes.slices c.args.item.now) _ c.at_start-then-words-total.ensures
     (omega (arith, t, c.loop-k.invariant.1 s, length-image (g.A.AsBytes.slices c.args.item.now), weight-take (g.A.AsBytes.slices c.args.item.now) (c.loop-k.k + 1)))
 
-pub overflow-add-total-in-loop-k : goal.overflow-add-total-in-loop-k
-overflow-add-total-in-loop-k g c = omega (arith, c.loop-k.invariant.0)
+pub overflow_add-total-in-loop-k : goal.overflow_add-total-in-loop-k
+overflow_add-total-in-loop-k g c = omega (arith, c.loop-k.invariant.0)
 
 pub loop-k-preserved : goal.loop-k-preserved
 loop-k-preserved g c = (
