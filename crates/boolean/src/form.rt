@@ -7,12 +7,12 @@ ghost use Rattle.boolean.specs.Form.{BoolsKept, bools_slices};
 use crate::bools::Bools;
 use crate::tail::Tail;
 use area::fault::{Fault, Refusal};
-use storage::store::Store;
 use column::kind::{Index, Kind, MAX_LEN, MAX_WORDS};
 use decode::decoded::DecodedStore;
 use decode::span::Span;
 use read::form::FromBytes;
 use read::view::View;
+use storage::store::Store;
 
 // The form of the words below, the place of the tail, and the tail's bits.
 #[derive(Drop)]

@@ -12,9 +12,9 @@ ghost use Rattle.indexed.specs.Pieces.{Given, Written, slice_pieces};
 
 use crate::length_in_words;
 use area::fault::{Fault, Refusal};
+use column::kind::AsBytes;
 use storage::store::Store;
 use storage::write::WriteBytes;
-use column::kind::AsBytes;
 
 // A refused write: 15 before the first piece, or 14 with the number of the piece, from 0, and the sink's own fault.
 pub enum WriteFault<F> {

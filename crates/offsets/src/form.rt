@@ -9,12 +9,12 @@ ghost use Rattle.offsets.specs.Form.{StridesKept, strides_slices};
 
 use crate::strides::Strides;
 use area::fault::{Fault, Refusal};
-use storage::store::Store;
 use column::kind::{Kind, MAX_LEN};
 use column::run::Run;
 use decode::decoded::DecodedStore;
 use decode::span::Span;
 use read::form::FromBytes;
+use storage::store::Store;
 
 // The place of the head, its stride and length, and the place of the bounds.
 #[derive(Clone, Copy)]

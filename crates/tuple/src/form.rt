@@ -6,11 +6,11 @@ ghost use Rattle.tuple.specs.Form.{EmptiesKept, PairKept, pair_slices};
 use crate::empties::Empties;
 use crate::pair::Pair;
 use area::fault::{Fault, Refusal};
-use storage::store::Store;
 use column::kind::{Kind, MAX_LEN, MAX_WORDS};
 use decode::decoded::DecodedStore;
 use decode::span::Span;
 use read::form::FromBytes;
+use storage::store::Store;
 
 // The place of the count, and the count.
 #[derive(Clone, Copy)]

@@ -6,7 +6,7 @@ use Rattle.tuple.proofs.pair.PairColumn.upholds.Goals as goal
 pub returns : goal.returns
 returns g c = record {
   held = λ s.
-      held-tuples g.Elem.Value-1.fits g.Elem.Value-2.fits (g.A.Index.list c.args.self.now.first) (g.B.Index.list c.args.self.now.second) s.level
+      held-tuples g.A.Elem.Value.fits g.B.Elem.Value.fits (g.A.Index.list c.args.self.now.first) (g.B.Index.list c.args.self.now.second) s.level
       (c.upholds.ensures.held s.left) (c.upholds-2.ensures.held s.right);
   written = λ s.
       ap₂ ◌++◌ (c.upholds.ensures.written s.left) (c.upholds-2.ensures.written s.right)
