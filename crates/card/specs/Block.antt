@@ -1,16 +1,20 @@
 -- The block table: ends as strides, bad marks as bools over a run of words, wear classes as a run of bytes.
 use Rattle.std.specs.Prelude.{ℕ, ◌^◌, Bool, List, length, nat_lt}
-use Rattle.boolean.specs.Bools.{BoolsSound, bools_list, bools_takes}
+use Rattle.boolean.specs.Bools.{BoolsSound, bools_format, bools_list, bools_takes}
 use Rattle.column.specs.Column.{Areas, cells, beside}
-use Rattle.tuple.specs.Pair.{PairSound, pair_list, pair_takes}
-use Rattle.column.specs.Run.{RunSound, run_list, run_takes}
-use Rattle.offsets.specs.Strides.{StridesSound, strides_list, strides_takes}
+use Rattle.column.specs.Element.{unsigned}
+use Rattle.column.specs.Kind.{Format}
+use Rattle.tuple.specs.Pair.{PairSound, pair_format, pair_list, pair_takes}
+use Rattle.column.specs.Run.{RunSound, run_format, run_list, run_takes, word_run}
+use Rattle.offsets.specs.Strides.{StridesSound, strides_format, strides_list, strides_takes}
 use Rattle.boolean.specs.declared.bools.Bools.{Bools}
 use Rattle.tuple.specs.declared.pair.Pair.{Pair}
 use Rattle.column.specs.declared.run.Run.{Run}
 use Rattle.offsets.specs.declared.strides.Strides.{Strides}
 use Rattle.card.specs.Records.{Block}
-pub use Rattle.kinds.specs.Kinds.{block_format}
+
+abbrev pub block_format : Format Block
+block_format = pair_format (strides_format word_run) (pair_format (bools_format word_run) (run_format (unsigned 1)))
 
 abbrev pub block_takes : Areas → List Block → Block → Bool
 block_takes = pair_takes strides_takes (pair_takes (bools_takes run_takes) run_takes)

@@ -5,8 +5,11 @@ use Rattle.area.specs.Fault.{refuse}
 use Rattle.area.specs.declared.fault.Fault.{Fault}
 use Rattle.area.specs.declared.fault.Refusal.TheVariants.{UnknownRecord}
 use Rattle.card.specs.declared.record.Record.{Record}
-pub use Rattle.kinds.specs.Kinds.{Block}
 use Rattle.card.specs.declared.record.Record.TheVariants.{Push, Clear, Image}
+
+-- an element of a block table: end, bad mark, wear class
+abbrev pub Block : Type 0
+Block = ℕ × (Bool × ℕ)
 
 -- the push that a body writes: eight bytes of end, the bad byte and the wear byte
 abbrev pub push_of : List ℕ → Option (Record Block)

@@ -7,9 +7,10 @@ ghost use Rattle.card.specs.Examples.{ExamplesHold};
 use boolean::bools::Bools;
 use column::kind::Column;
 use column::run::Run;
-use kinds::kinds::BlockTable;
 use offsets::strides::Strides;
 use tuple::pair::Pair;
+
+pub type BlockTable<'a> = Pair<Strides<'a>, Pair<Bools<Run<'a, u64>>, Run<'a, u8>>>;
 
 // An empty block table over three lent areas: bounds, words of bad marks, wear classes.
 pub fn block_table<'a>(

@@ -5,6 +5,7 @@ ghost use Rattle.card.specs.Block.{BlockSound, block_areas, block_format, block_
 ghost use Rattle.card.specs.Records.{records};
 ghost use Rattle.card.specs.Tables.{Runs, after, answer, lines_of_image, list_after, lines_of};
 
+use crate::block::BlockTable;
 use crate::line::Line;
 use crate::record::{Record, read_record, record_size};
 use boolean::bools::*;
@@ -12,7 +13,6 @@ use column::element::*;
 use column::kind::*;
 use column::run::*;
 use indexed::encode;
-use kinds::kinds::BlockTable;
 use offsets::strides::*;
 use std::alloc::AllocError;
 use tuple::pair::*;

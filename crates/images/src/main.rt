@@ -4,8 +4,6 @@
 use area::fault::*;
 use boolean::bools::*;
 use boolean::form::*;
-use storage::compare::same_bytes;
-use storage::store::*;
 use column::append::append;
 use column::element::*;
 use column::kind::*;
@@ -24,6 +22,8 @@ use read::run::*;
 use read::validate::validate;
 use read::view::*;
 use std::io;
+use storage::compare::same_bytes;
+use storage::store::*;
 use tuple::empties::*;
 use tuple::form::*;
 use tuple::pair::*;

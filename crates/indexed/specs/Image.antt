@@ -3,7 +3,8 @@ use Rattle.std.specs.Prelude.{ℕ, ◌+◌, ◌*◌, Bool, cond, ◌&&◌, List,
 use Rattle.std.proofs.Math.Seq.{paste}
 use Rattle.std.specs.List.{flat_map}
 use Rattle.area.specs.Fault.{refuse}
-use Rattle.area.specs.Slice.{Slice, round_up}
+use Rattle.area.specs.Slice.{Slice}
+pub use Rattle.area.specs.Slice.{round_up}
 use Rattle.area.specs.declared.fault.Fault.{Fault}
 use Rattle.area.specs.declared.fault.Refusal.TheVariants.{NoRoom, ImageTooLong}
 use Rattle.column.specs.Kind.{CAP}

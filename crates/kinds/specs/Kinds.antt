@@ -5,23 +5,14 @@ use Rattle.area.specs.declared.fault.Fault.{Fault}
 use Rattle.area.specs.declared.fault.Refusal.TheVariants.{ByteLength, UnknownRecord}
 use Rattle.boolean.specs.Bools.{bools_format}
 use Rattle.storage.specs.Store.{join_words, length_stands}
-use Rattle.column.specs.Element.{unsigned}
 use Rattle.column.specs.Kind.{Format}
-use Rattle.column.specs.Run.{run_format, word_run}
+use Rattle.column.specs.Run.{word_run}
 use Rattle.offsets.specs.Strides.{strides_format}
 use Rattle.read.specs.Admission.{admission}
 use Rattle.tuple.specs.Empties.{empties_format}
-use Rattle.tuple.specs.Pair.{pair_format}
+use Rattle.card.specs.Block.{block_format}
 use Rattle.kinds.specs.declared.kinds.CardKind.{CardKind}
 use Rattle.kinds.specs.declared.kinds.CardKind.TheVariants.{BlockTable, EraseMap, SpareCount}
-
--- an element of a block table: end, bad mark, wear class
-abbrev pub Block : Type 0
-Block = ℕ × (Bool × ℕ)
-
--- ends as strides, bad marks as bools over a run of words, wear classes as a run of bytes
-abbrev pub block_format : Format Block
-block_format = pair_format (strides_format word_run) (pair_format (bools_format word_run) (run_format (unsigned 1)))
 
 -- bools over strides
 abbrev pub erase_format : Format Bool

@@ -4,13 +4,11 @@ ghost use Rattle.kinds.specs.Kinds.{kind_numbered};
 
 use area::fault::{Fault, Refusal};
 use boolean::bools::Bools;
-use column::run::Run;
 use offsets::strides::Strides;
 use tuple::empties::Empties;
-use tuple::pair::Pair;
 
 // Block ends, bad marks and wear classes.
-pub type BlockTable<'a> = Pair<Strides<'a>, Pair<Bools<Run<'a, u64>>, Run<'a, u8>>>;
+pub use card::block::BlockTable;
 
 // One mark a block.
 pub type EraseMap<'a> = Bools<Strides<'a>>;

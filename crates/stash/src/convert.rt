@@ -6,12 +6,12 @@ ghost use Rattle.stash.specs.Stash.{Sound, table_of};
 
 use crate::stash::Stash;
 use area::fault::Fault;
-use storage::store::Store;
-use storage::write::WriteBytes;
 use column::element::Value;
 use column::kind::{AsBytes, Column, Index, Kind};
 use indexed::write::WriteFault;
 use read::form::FromBytes;
+use storage::store::Store;
+use storage::write::WriteBytes;
 
 // A refused conversion: the ready column does not take the list, or the sink not the image.
 pub enum ConvertFault<F> {

@@ -7,13 +7,13 @@ ghost use Rattle.read.specs.Form.{Stands, list_of};
 ghost use Rattle.stash.specs.Stash.{Brought, Sound, admitted_table, call_of, filled, table_of};
 
 use area::fault::{Fault, Refusal};
-use storage::store::Store;
 use column::append::append;
 use column::element::Value;
 use column::kind::{Column, Index, Kind};
 use read::form::FromBytes;
 use read::validate::validate;
 use read::view::View;
+use storage::store::Store;
 
 // The three states of a table.
 #[derive(Drop)]

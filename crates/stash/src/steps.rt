@@ -6,10 +6,10 @@ ghost use Rattle.stash.specs.Written.{after_reload, after_start, reload_answer, 
 
 use crate::stash::{Event, Stash};
 use area::fault::{Fault, Refusal};
-use storage::store::{ByteArea, Store, WordArea};
 use column::element::Value;
 use column::kind::{AsBytes, Column, Index, Kind};
 use read::form::FromBytes;
+use storage::store::{ByteArea, Store, WordArea};
 
 impl<'a, C: Column + FromBytes + Drop, B: Store + Drop> Stash<C, B, WordArea<'a>> {
     // Takes the first `words` words of `area` as the table's store; 16 where there are fewer. An Align table stays as it

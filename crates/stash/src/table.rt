@@ -9,14 +9,14 @@ ghost use Rattle.stash.specs.Written.{Reloads, TableWritten, align_answer, align
 use crate::landing::Landing;
 use crate::stash::Stash;
 use area::fault::Fault;
-use storage::store::Store;
-use storage::write::{Full, WriteBytes};
 use column::element::Value;
 use column::kind::{AsBytes, Column, Index, Kind};
 use indexed::write::{WriteFault, write, write_store};
 use indexed::{encode, length_in_bytes, length_in_words};
 use read::form::FromBytes;
 use read::view::View;
+use storage::store::Store;
+use storage::write::{Full, WriteBytes};
 
 impl<C: Column + FromBytes + Drop, B: Store + Drop, A: Store + Drop> Stash<C, B, A> {
     // Does nothing: its clause is what holds of a sound table at all times.

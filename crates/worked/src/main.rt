@@ -3,7 +3,6 @@
 
 use area::fault::Fault;
 use boolean::bools::*;
-use storage::write::*;
 use column::append::append;
 use column::element::*;
 use column::kind::*;
@@ -12,6 +11,7 @@ use indexed::encode;
 use indexed::write::{WriteFault, write};
 use offsets::strides::*;
 use std::io;
+use storage::write::*;
 use tuple::empties::*;
 use tuple::pair::*;
 
