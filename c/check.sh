@@ -6,9 +6,10 @@ if ! command -v gcc > /dev/null; then
     echo "c/check.sh: skipped, there is no gcc"
     exit 0
 fi
-rt staticlib kinds > /dev/null
+(cd crates/kinds_c && rt lib > /dev/null)
 out=$(mktemp -d)
 trap 'rm -rf "$out"' EXIT
-gcc -std=c11 -Wall -Wextra -Werror -O2 -I c c/boot.c target/staticlib/libkinds.a -o "$out/boot"
+cp crates/kinds_c/out/libkinds_c.a "$out/libkinds.a"
+gcc -std=c11 -Wall -Wextra -Werror -O2 -I c c/boot.c "$out/libkinds.a" -o "$out/boot"
 "$out/boot"
 echo "c/check.sh: every answer is the one wanted"

@@ -1,14 +1,14 @@
-// Admission for a kind of the card, and its C entry.
+// Admission for a kind of the card, and the check that the boot loader makes.
 ghost use Rattle.std.specs.Prelude.{◌≡◌};
 ghost use Rattle.read.specs.Admission.{admission};
 ghost use Rattle.kinds.specs.Kinds.{bytes_admission, card_admission, check_answer, length_answer, numbered_admission};
 
 use crate::kinds::{BlockTable, CardKind, EraseMap, SpareCount};
 use area::fault::Fault;
-use storage::store::{ByteArea, Store};
 use column::kind::Kind;
 use read::form::FromBytes;
 use read::validate::validate;
+use storage::store::{ByteArea, Store};
 
 // How long the list is that a store's image of kind `K` is admitted with.
 fn admitted_len<K: FromBytes, S: Store>(store: &S) -> Result<usize, Fault>
@@ -39,8 +39,7 @@ pub fn admit_bytes(kind: u32, bytes: &[u8]) -> Result<usize, Fault>
 }
 
 // 0 where the bytes are admitted, or else the number of the refusal.
-#[unsafe(no_mangle)]
-pub extern "C" fn check_image(kind: u32, bytes: &[u8]) -> u32
+pub fn check_image(kind: u32, bytes: &[u8]) -> u32
     ensures { result ≡ check_answer kind bytes.now }
 {
     match admit_bytes(kind, bytes) {
