@@ -1,5 +1,5 @@
 -- The word of eight bytes, byte by byte.
-use Rattle.std.proofs.Common.{◌≡◌, ℕ, suc, ◌+◌, ◌*◌, ◌<◌, ◌≤◌, List, length, get_or, take, drop, ap, ◌∙◌, add-zero, add-suc, arith, drop-cons}
+use Rattle.std.proofs.Common.{◌≡◌, ℕ, suc, ◌+◌, ◌*◌, ◌<◌, ◌≤◌, List, length, get_or, take, drop, add-zero, add-suc, arith, drop-cons}
 use Rattle.area.specs.Digits.{number}
 
 -- the digit at place i + j is the first of those from there on

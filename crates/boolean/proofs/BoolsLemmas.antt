@@ -1,19 +1,19 @@
 -- A sound column of bools: what its list consists of, the element at a place, and what a push leaves.
-use Rattle.std.proofs.Common.{◌≡◌, ℕ, zero, suc, ◌+◌, ◌*◌, ◌/◌, ◌%◌, ◌^◌, ◌<◌, ◌≤◌, Bool, true, false, cond, ◌&&◌, eqb, List, [], ◌∷◌, ◌++◌, map, length, get_or, Ok, Err, sym, refl, ap, ◌∙◌, ap₂, ⊎_elim, append_assoc, append-nil, mul_assoc, mul_comm, mul-add, arith}
-use native.Mathlib.Nat.{pow-zero, pow-succ', pow-le-pow_right}
+use Rattle.std.proofs.Common.{◌≡◌, ℕ, zero, suc, ◌+◌, ◌*◌, ◌/◌, ◌%◌, ◌^◌, ◌<◌, ◌≤◌, Bool, true, false, cond, ◌&&◌, eqb, List, [], ◌∷◌, ◌++◌, length, get_or, Ok, Err, sym, refl, ap, ◌∙◌, ap₂, ⊎_elim, append_assoc, append-nil, mul_comm, arith}
+use native.Mathlib.Nat.{pow-le-pow_right}
 use lib.Bits.{bit_and, bit_or}
 use mir.Val.{bool_byte}
 use Rattle.std.specs.List.{flat_map}
 use Rattle.std.proofs.lemmas.Nat.{and_mask, or_comm, or_shifted, shl_whole}
-use Rattle.std.proofs.lemmas.List.{length-append, length-map, length_push, map-append, get_or-map, get_or_append_left, get_or-append_right, get_or_past}
+use Rattle.std.proofs.lemmas.List.{length_push, get_or-map, get_or_append_left, get_or-append_right, get_or_past}
 use Rattle.std.proofs.lemmas.Bool.{and_from, cases_lt, lt-ltb, eq-eqb, ne_eqb}
-use Rattle.area.specs.Digits.{number, digits}
+use Rattle.area.specs.Digits.{digits}
 use Rattle.area.specs.Slice.{WellFormed}
 use Rattle.area.specs.declared.fault.Fault.{Fault}
 use Rattle.std.proofs.lemmas.Bool.Decides.{nat_tests}
 use Rattle.area.proofs.DigitLemmas.{get_or-digits, get_or-joined, joined-append, length_digits}
 use Rattle.area.proofs.SliceLemmas.{of_words-formed}
-use Rattle.boolean.specs.Bools.{bit, from_bits, to_bits, groups, rest, held_bits, tail_slice, word_at, bools_takes, bools_list, BoolsSound}
+use Rattle.boolean.specs.Bools.{from_bits, to_bits, groups, rest, held_bits, tail_slice, word_at, bools_takes, bools_list, BoolsSound}
 use Rattle.column.specs.Column.{Areas, element, push_answer}
 use Rattle.column.specs.Kind.{L, every}
 use Rattle.boolean.specs.Tail.{TailKept}

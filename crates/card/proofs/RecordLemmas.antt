@@ -1,7 +1,7 @@
 -- The record at a place of an input.
-use Rattle.std.proofs.Common.{◌≡◌, ℕ, ◌+◌, ◌<◌, ◌≤◌, true, false, ◌&&◌, eqb, leb, List, [], ◌∷◌, length, get_or, take, drop, Some, None, sym, refl, ap, ◌∙◌, arith, length-drop}
+use Rattle.std.proofs.Common.{◌≡◌, ℕ, ◌+◌, ◌<◌, ◌≤◌, eqb, leb, List, length, get_or, take, drop, Some, None, ap, arith, length-drop}
 use Rattle.std.proofs.lemmas.List.{drop_more, drop_all, get_or-drop}
-use Rattle.std.proofs.lemmas.Bool.{le-leb, lt-leb, ne_eqb, and_right, and_left, and_from}
+use Rattle.std.proofs.lemmas.Bool.{le-leb, lt-leb, ne_eqb, and_right}
 use Rattle.area.specs.Digits.{number}
 use Rattle.card.specs.Records.{push_of, record_of, record_by}
 use Rattle.card.specs.declared.record.Record.TheVariants.{Push}

@@ -1,5 +1,5 @@
 -- The worked examples of the format, as one list: what the definitions give, and what they should.
-use Rattle.std.specs.Prelude.{◌≡◌, ℕ, ◌^◌, Bool, false, List, [], ◌∷◌, replicate, Ok, Err, Result}
+use Rattle.std.specs.Prelude.{◌≡◌, ℕ, ◌^◌, false, List, [], ◌∷◌, replicate, Ok, Err, Result}
 use Rattle.std.specs.List.{AllByRecursion as All}
 use Rattle.area.specs.declared.fault.Fault.{Fault}
 use Rattle.boolean.specs.Bools.{bools_format, bools_takes, bits_pushed}

@@ -1,5 +1,5 @@
 -- Element types that match byte strings of one nonzero size, one to one.
-use Rattle.std.specs.Prelude.{◌≡◌, ℕ, ◌^◌, ◌<◌, Bool, true, List, length}
+use Rattle.std.specs.Prelude.{◌≡◌, ℕ, ◌<◌, Bool, true, List, length}
 use Rattle.std.specs.List.{AllByRecursion as All}
 use Rattle.area.specs.Digits.{number, digits}
 

@@ -4,7 +4,7 @@ use Rattle.std.proofs.lemmas.List.{at_drop_more, at_drop_all}
 use Rattle.std.proofs.lemmas.Bool.{leb-true, eqb-true, le-leb, le-ltb, lt-leb, lt-ltb, eq-eqb, and_parts}
 use Rattle.std.proofs.lemmas.Bool.Decides.{nat_tests}
 use Rattle.area.specs.Fault.{refuse}
-use Rattle.area.specs.Slice.{Slice, words_for, round_up}
+use Rattle.area.specs.Slice.{words_for, round_up}
 use Rattle.area.specs.declared.fault.Fault.{Fault}
 use Rattle.area.specs.declared.fault.Refusal.{Refusal}
 use Rattle.area.specs.declared.fault.Refusal.TheVariants.{ByteLength, NoWord, FirstWord, IndexCut, SliceCount, EndOutside, EndBeforeStart, OutOfRange}

@@ -1,5 +1,5 @@
 -- Images: an index of byte offsets, and then the words of each slice.
-use Rattle.std.specs.Prelude.{ℕ, ◌+◌, ◌*◌, Bool, cond, ◌&&◌, List, [], ◌∷◌, ◌++◌, length, Ok, Err, Result, nat_le}
+use Rattle.std.specs.Prelude.{ℕ, ◌+◌, ◌*◌, cond, ◌&&◌, List, [], ◌∷◌, ◌++◌, length, Ok, Err, Result, nat_le}
 use Rattle.std.proofs.Math.Seq.{paste}
 use Rattle.std.specs.List.{flat_map}
 use Rattle.area.specs.Fault.{refuse}

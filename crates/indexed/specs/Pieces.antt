@@ -1,5 +1,5 @@
 -- An image as pieces for a sink, and what a sink that takes them one after the other is left with.
-use Rattle.std.specs.Prelude.{◌≡◌, ℕ, zero, suc, ◌-◌, ◌%◌, ◌<◌, ◌≤◌, Bool, cond, List, [], ◌∷◌, ◌++◌, map, length, take, drop, replicate, Ok, Err, Result, ◌==◌, nat_le, slice_index_or}
+use Rattle.std.specs.Prelude.{◌≡◌, ℕ, zero, suc, ◌-◌, ◌%◌, ◌<◌, ◌≤◌, cond, List, [], ◌∷◌, ◌++◌, map, length, take, drop, replicate, Ok, Err, Result, ◌==◌, nat_le, slice_index_or}
 use Rattle.std.specs.List.{flat_map, AllByRecursion as All}
 use Rattle.area.specs.Digits.{digits, chunks}
 use Rattle.area.specs.Fault.{refuse}

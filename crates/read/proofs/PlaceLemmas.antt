@@ -1,22 +1,20 @@
 -- The slices of a composed kind: the parts of them, their places, and what is answered of them.
-use Rattle.std.proofs.Common.{◌≡◌, ℕ, zero, suc, ◌+◌, ◌^◌, ◌<◌, ◌≤◌, Bool, true, false, cond, List, [], ◌∷◌, ◌++◌, length, get_or, take, drop, Some, None, Ok, Err, Option, sym, refl, ap, ◌∙◌, subst, add-zero, add_assoc, arith, length-drop, length-take}
-use Rattle.std.specs.List.{AllByRecursion as All}
-use Rattle.std.proofs.ByRecursion.{All-from_get_or, All-take, All-drop}
-use Rattle.std.proofs.lemmas.List.{drop-drop, drop-take, get_or-drop, get_or-take, take_all, take_more, take-take}
-use Rattle.std.proofs.lemmas.Bool.{le-leb, lt-leb, lt-ltb}
+use Rattle.std.proofs.Common.{◌≡◌, ℕ, zero, suc, ◌+◌, ◌<◌, ◌≤◌, Bool, true, false, cond, List, [], ◌∷◌, ◌++◌, length, get_or, take, drop, Some, None, Ok, Err, Option, sym, ap, ◌∙◌, subst, add-zero, add_assoc, arith}
+use Rattle.std.proofs.lemmas.List.{drop-drop, drop-take, take_all, take_more, take-take}
+use Rattle.std.proofs.lemmas.Bool.{le-leb, lt-leb}
 use Rattle.area.specs.Fault.{refuse}
-use Rattle.area.specs.Slice.{Slice, WellFormed, words_for}
+use Rattle.area.specs.Slice.{Slice, words_for}
 use Rattle.area.specs.declared.fault.Fault.{Fault}
-use Rattle.area.specs.declared.fault.Refusal.TheVariants.{SliceContent, SliceSize}
+use Rattle.area.specs.declared.fault.Refusal.TheVariants.{SliceContent}
 use Rattle.column.specs.Column.{element}
-use Rattle.column.specs.Kind.{CAP, Format, Reading, after, first_refused, further, reading_within, least_words, reads, refuses, slot, word_of}
+use Rattle.column.specs.Kind.{Format, Reading, after, first_refused, further, reading_within, least_words, reads, refuses, slot, word_of}
 use Rattle.column.proofs.ColumnLemmas.{element-at}
-use Rattle.decode.specs.Decode.{DecodedSound, Inside, slice_in, slices_of, span_answer, span_of}
+use Rattle.decode.specs.Decode.{DecodedSound, Inside, slice_in, slices_of, span_answer}
 use Rattle.decode.specs.declared.decoded.DecodedStore.{DecodedStore}
 use Rattle.decode.specs.declared.span.Span.{Span}
-use Rattle.decode.proofs.DecodeLemmas.{asked-passed, length-span, slices-under, span-inside, span-slice}
+use Rattle.decode.proofs.DecodeLemmas.{length-span}
 use Rattle.read.specs.Form.{Stands, There, form_answer, list_of, size_answer, slices_within, words_in}
-use Rattle.read.proofs.FormLemmas.{form-read, get_d_part, got, not-refused, size-further, there-count, there-formed}
+use Rattle.read.proofs.FormLemmas.{form-read, got, not-refused, size-further, there-count, there-formed}
 use Rattle.read.proofs.StandLemmas.{stands}
 
 -- question 8: refused, of two parts, and of one slice

@@ -1,7 +1,7 @@
 -- Accepted slices of a form: the list that they read as, and that the form stands for it.
-use Rattle.std.proofs.Common.{◌≡◌, ℕ, List, [], sym, ap, subst}
+use Rattle.std.proofs.Common.{◌≡◌, ℕ, List, sym, subst}
 use Rattle.area.specs.Slice.{Slice}
-use Rattle.column.specs.Kind.{Accepted, Format, reads, refuses}
+use Rattle.column.specs.Kind.{Accepted, Format}
 use Rattle.read.proofs.FormLemmas.{reads-list}
 use Rattle.read.specs.Form.{Stands, list_of}
 

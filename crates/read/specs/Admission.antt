@@ -1,5 +1,5 @@
 -- Admission: questions 1 to 9 of a store's words for a kind, in order.
-use Rattle.std.specs.Prelude.{◌≡◌, ℕ, List, Some, None, Ok, Err, Option, Result}
+use Rattle.std.specs.Prelude.{◌≡◌, ℕ, List, Some, None, Ok, Err, Result}
 use Rattle.area.specs.Fault.{refuse}
 use Rattle.area.specs.Slice.{Slice}
 use Rattle.area.specs.declared.fault.Fault.{Fault}

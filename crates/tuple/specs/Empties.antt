@@ -1,5 +1,5 @@
 -- Empties: one word, the count of elements that hold nothing.
-use Rattle.std.specs.Prelude.{ℕ, Bool, List, [], ◌∷◌, length, take, replicate, nat_le, nat_lt}
+use Rattle.std.specs.Prelude.{Bool, List, [], ◌∷◌, length, take, replicate, nat_le, nat_lt}
 use Rattle.area.specs.Slice.{of_words}
 use Rattle.column.specs.Column.{Areas}
 use Rattle.column.specs.Kind.{Format, L, slot, word_of, least_words, reading_within}

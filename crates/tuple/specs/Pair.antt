@@ -1,5 +1,5 @@
 -- A pair: tuples, as the slices of the firsts and then those of the seconds.
-use Rattle.std.specs.Prelude.{◌≡◌, ℕ, ◌+◌, Bool, false, ◌&&◌, List, [], ◌∷◌, ◌++◌, map, length, take, drop, ◌==◌}
+use Rattle.std.specs.Prelude.{◌≡◌, ◌+◌, Bool, false, ◌&&◌, List, [], ◌∷◌, ◌++◌, map, length, take, drop, ◌==◌}
 use Rattle.tuple.specs.declared.pair.Pair.{Pair}
 use Rattle.column.specs.Column.{Areas, none, cells, beside}
 use Rattle.column.specs.Kind.{Format, first_refused, further, after, reading_within}
