@@ -3,7 +3,7 @@ use Rattle.std.proofs.Common.{◌≡◌, ℕ, zero, suc, ◌+◌, ◌-◌, ◌*�
 use native.Mathlib.Nat.{pow-zero, pow-succ', zero-div, zero-mod, mod-one, one-le-pow, div-eq_of_lt, add-mul-mod_self_left, add-mul-div_left, div-div-eq-div-mul, sub-zero, sub_self, suc-sub-suc, pow-le-pow_right}
 use lib.Arith.{digits_lt, mod-mul}
 use lib.ListN.{replicate-append-replicate}
-use Rattle.std.specs.List.{flat_map, AllByRecursion as All}
+use Rattle.std.specs.List.{flat_map, AllByRecursion}
 use Rattle.std.proofs.lemmas.Nat.{pow-add}
 use Rattle.std.proofs.ByRecursion.{All-append, All-take, All-drop}
 use Rattle.std.proofs.lemmas.List.{drop_all, get_or_append_left, get_or-append_right, nil_from_length}
@@ -21,13 +21,13 @@ digits-zero : (b n : ℕ) → digits b n 0 ≡ replicate n 0
 digits-zero b zero = refl
 digits-zero b (suc n) = rw (zero-mod, zero-div) (ap (λ ds. 0 ∷ ds) (digits-zero b n))
 
-pub digits_number : (b n : ℕ) (ds : List ℕ) → All (λ d. d < b) ds → length ds ≤ n → digits b n (number b ds) ≡ ds ++ replicate (n - length ds) 0
+pub digits_number : (b n : ℕ) (ds : List ℕ) → AllByRecursion (λ d. d < b) ds → length ds ≤ n → digits b n (number b ds) ≡ ds ++ replicate (n - length ds) 0
 digits_number b n [] h l = rw sub-zero (digits-zero b n)
 digits_number b zero (d ∷ ds) h l = absurd (omega arith)
 digits_number b (suc n) (d ∷ ds) h l =
     rw (low_digit b d (number b ds) h.0, high-digits b d (number b ds) h.0, suc-sub-suc) (ap (λ es. d ∷ es) (digits_number b n ds h.1 (omega arith)))
 
-pub digits-number-all : (b : ℕ) (ds : List ℕ) (n : ℕ) → All (λ d. d < b) ds → length ds ≡ n → digits b n (number b ds) ≡ ds
+pub digits-number-all : (b : ℕ) (ds : List ℕ) (n : ℕ) → AllByRecursion (λ d. d < b) ds → length ds ≡ n → digits b n (number b ds) ≡ ds
 digits-number-all b ds n h l =
     let z : n - length ds ≡ 0 = omega arith in
     digits_number b n ds h (omega arith) ∙ rw z (append-nil ds)
@@ -55,11 +55,11 @@ pub length_digits : (b n w : ℕ) → length (digits b n w) ≡ n
 length_digits b zero w = refl
 length_digits b (suc n) w = ap suc (length_digits b n (w / b))
 
-pub digits-under : (b n w : ℕ) → 0 < b → All (λ d. d < b) (digits b n w)
+pub digits-under : (b n w : ℕ) → 0 < b → AllByRecursion (λ d. d < b) (digits b n w)
 digits-under b zero w p = tt
 digits-under b (suc n) w p = (mod-lt w p, digits-under b n (w / b) p)
 
-pub number_lt : (b : ℕ) (ds : List ℕ) → All (λ d. d < b) ds → number b ds < b ^ length ds
+pub number_lt : (b : ℕ) (ds : List ℕ) → AllByRecursion (λ d. d < b) ds → number b ds < b ^ length ds
 number_lt b [] h = omega (arith, pow-zero b)
 number_lt b (d ∷ ds) h =
     rw pow-suc (omega (arith, mul_comm b (number b ds), digits_lt (number_lt b ds h.1) h.0))
@@ -86,13 +86,13 @@ module _ {X : Type 0} where
   get_or-chunks k (suc n) xs zero h = rw mul-zero
   get_or-chunks k (suc n) xs (suc i) h = get_or-chunks k n (drop k xs) i (omega arith) ∙ rw (drop-drop, mul-suc, add_comm k (k * i))
 
-  pub all-chunks : (k n : ℕ) (xs : List X) → k * n ≤ length xs → All (λ c. length c ≡ k) (chunks k n xs)
+  pub all-chunks : (k n : ℕ) (xs : List X) → k * n ≤ length xs → AllByRecursion (λ c. length c ≡ k) (chunks k n xs)
   all-chunks k zero xs h = tt
   all-chunks k (suc n) xs h =
       let l : k * n + k ≤ length xs = rw mul-suc at h in
       (length-take-le k xs (omega arith), all-chunks k n (drop k xs) (simp length-drop (omega arith)))
 
-  pub all-in-chunks : (P : X → Type 0) (k n : ℕ) (xs : List X) → All P xs → All (All P) (chunks k n xs)
+  pub all-in-chunks : (P : X → Type 0) (k n : ℕ) (xs : List X) → AllByRecursion P xs → AllByRecursion (AllByRecursion P) (chunks k n xs)
   all-in-chunks P k zero xs h = tt
   all-in-chunks P k (suc n) xs h = (All-take P k xs h, all-in-chunks P k n (drop k xs) (All-drop P k xs h))
 
@@ -105,20 +105,20 @@ module _ {X A : Type 0} (f : X → List A) where
   joined-append [] ys = refl
   joined-append (x ∷ xs) ys = rw (joined-append xs ys, append_assoc)
 
-  pub length-joined : (k : ℕ) (xs : List X) → All (λ x. length (f x) ≡ k) xs → length (flat_map f xs) ≡ k * length xs
+  pub length-joined : (k : ℕ) (xs : List X) → AllByRecursion (λ x. length (f x) ≡ k) xs → length (flat_map f xs) ≡ k * length xs
   length-joined k [] h = rw mul-zero
   length-joined k (x ∷ xs) h = rw (length-append, mul-suc, length-joined k xs h.1, h.0) (omega arith)
 
   -- with a rest ys after the chunks
-  pub chunks-joined : (k : ℕ) (xs : List X) (ys : List A) → All (λ x. length (f x) ≡ k) xs → chunks k (length xs) (flat_map f xs ++ ys) ≡ map f xs
+  pub chunks-joined : (k : ℕ) (xs : List X) (ys : List A) → AllByRecursion (λ x. length (f x) ≡ k) xs → chunks k (length xs) (flat_map f xs ++ ys) ≡ map f xs
   chunks-joined k [] ys h = refl
   chunks-joined k (x ∷ xs) ys h =
       rw (append_assoc, take_at (f x) (flat_map f xs ++ ys) k h.0, drop_at (f x) (flat_map f xs ++ ys) k h.0, chunks-joined k xs ys h.1)
 
-  pub chunks-joined-all : (k : ℕ) (xs : List X) → All (λ x. length (f x) ≡ k) xs → chunks k (length xs) (flat_map f xs) ≡ map f xs
+  pub chunks-joined-all : (k : ℕ) (xs : List X) → AllByRecursion (λ x. length (f x) ≡ k) xs → chunks k (length xs) (flat_map f xs) ≡ map f xs
   chunks-joined-all k xs h = ap (chunks k (length xs)) (sym (append-nil (flat_map f xs))) ∙ chunks-joined k xs [] h
 
-  pub get_or-joined : (k : ℕ) (xs : List X) (i j : ℕ) (d : A) (e : X) → All (λ x. length (f x) ≡ k) xs → i < length xs → j < k → get_or (flat_map f xs) (k * i + j) d ≡ get_or (f (get_or xs i e)) j d
+  pub get_or-joined : (k : ℕ) (xs : List X) (i j : ℕ) (d : A) (e : X) → AllByRecursion (λ x. length (f x) ≡ k) xs → i < length xs → j < k → get_or (flat_map f xs) (k * i + j) d ≡ get_or (f (get_or xs i e)) j d
   get_or-joined k [] i j d e h l m = absurd (omega arith)
   get_or-joined k (x ∷ xs) zero j d e h l m = rw (mul-zero, zero-add) (get_or_append_left (f x) (flat_map f xs) d j (omega (arith, h.0)))
   get_or-joined k (x ∷ xs) (suc i) j d e h l m =
@@ -126,15 +126,15 @@ module _ {X A : Type 0} (f : X → List A) where
       ∙ (let q : k * suc i + j - k ≡ k * i + j = omega (arith, mul-suc k i) in rw q (get_or-joined k xs i j d e h.1 (omega arith) m))
 
 -- what holds of everything holds of each element
-pub all-always : {X : Type 0} (P : X → Type 0) → ((x : X) → P x) → (xs : List X) → All P xs
+pub all-always : {X : Type 0} (P : X → Type 0) → ((x : X) → P x) → (xs : List X) → AllByRecursion P xs
 all-always P h [] = tt
 all-always P h (x ∷ xs) = (h x, all-always P h xs)
 
-pub all_replicate : {X : Type 0} (P : X → Type 0) (n : ℕ) (x : X) → P x → All P (replicate n x)
+pub all_replicate : {X : Type 0} (P : X → Type 0) (n : ℕ) (x : X) → P x → AllByRecursion P (replicate n x)
 all_replicate P zero x h = tt
 all_replicate P (suc n) x h = (h, all_replicate P n x h)
 
-pub all-joined : {X A : Type 0} (P : A → Type 0) (f : X → List A) (xs : List X) → All (λ x. All P (f x)) xs → All P (flat_map f xs)
+pub all-joined : {X A : Type 0} (P : A → Type 0) (f : X → List A) (xs : List X) → AllByRecursion (λ x. AllByRecursion P (f x)) xs → AllByRecursion P (flat_map f xs)
 all-joined P f [] h = tt
 all-joined P f (x ∷ xs) h = All-append P (f x) (flat_map f xs) h.0 (all-joined P f xs h.1)
 
@@ -152,7 +152,7 @@ pad_chunk k n ds = ⊎_elim short whole (cases_lt (length ds) k)
 
 -- Numbers of k digits each, for the digits of a list: zeros fill up the last.
 module _ (b k : ℕ) where
-  pub joined-digits : (n : ℕ) (ds : List ℕ) → All (λ d. d < b) ds → length ds ≤ k * n → flat_map (digits b k) (map (number b) (chunks k n ds)) ≡ ds ++ replicate (k * n - length ds) 0
+  pub joined-digits : (n : ℕ) (ds : List ℕ) → AllByRecursion (λ d. d < b) ds → length ds ≤ k * n → flat_map (digits b k) (map (number b) (chunks k n ds)) ≡ ds ++ replicate (k * n - length ds) 0
   joined-digits zero ds h l = rw (nil_from_length ds (omega (arith, mul-zero k)), mul-zero)
   joined-digits (suc n) ds h l =
       rw (
@@ -161,7 +161,7 @@ module _ (b k : ℕ) where
       )
       (pad_chunk k n ds)
 
-  pub chunks-under : (n : ℕ) (ds : List ℕ) → 0 < b → All (λ d. d < b) ds → All (λ w. w < b ^ k) (map (number b) (chunks k n ds))
+  pub chunks-under : (n : ℕ) (ds : List ℕ) → 0 < b → AllByRecursion (λ d. d < b) ds → AllByRecursion (λ w. w < b ^ k) (map (number b) (chunks k n ds))
   chunks-under zero ds p h = tt
   chunks-under (suc n) ds p h =
       let l : length (take k ds) ≤ k = simp length-take (omega arith) in (
@@ -169,12 +169,12 @@ module _ (b k : ℕ) where
         chunks-under n (drop k ds) p (All-drop (λ d. d < b) k ds h),
       )
 
-  map-digits : (ws : List ℕ) → 0 < b → All (λ w. w < b ^ k) ws → map (number b) (map (digits b k) ws) ≡ ws
+  map-digits : (ws : List ℕ) → 0 < b → AllByRecursion (λ w. w < b ^ k) ws → map (number b) (map (digits b k) ws) ≡ ws
   map-digits [] p h = refl
   map-digits (w ∷ ws) p h = rw (number_digits b k w p h.0, map-digits ws p h.1)
 
-  pub all-length-digits : (ws : List ℕ) → All (λ w. length (digits b k w) ≡ k) ws
+  pub all-length-digits : (ws : List ℕ) → AllByRecursion (λ w. length (digits b k w) ≡ k) ws
   all-length-digits = all-always (λ w. length (digits b k w) ≡ k) (length_digits b k)
 
-  pub chunks-digits : (ws : List ℕ) → 0 < b → All (λ w. w < b ^ k) ws → map (number b) (chunks k (length ws) (flat_map (digits b k) ws)) ≡ ws
+  pub chunks-digits : (ws : List ℕ) → 0 < b → AllByRecursion (λ w. w < b ^ k) ws → map (number b) (chunks k (length ws) (flat_map (digits b k) ws)) ≡ ws
   chunks-digits ws p h = rw (chunks-joined-all (digits b k) k ws (all-length-digits ws)) (map-digits ws p h)

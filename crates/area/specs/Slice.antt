@@ -1,6 +1,6 @@
 -- A slice: words, and how many of their bytes count. A word is eight bytes, the lowest first.
 use Rattle.std.specs.Prelude.{◌≡◌, ℕ, ◌+◌, ◌*◌, ◌/◌, ◌^◌, ◌<◌, cond, List, [], ◌∷◌, map, length, take, drop, Some, None, Option, nat_le}
-use Rattle.std.specs.List.{flat_map, AllByRecursion as All}
+use Rattle.std.specs.List.{flat_map, AllByRecursion}
 use Rattle.area.specs.Digits.{number, digits, chunks}
 
 pub record Slice : Type 0 where
@@ -36,11 +36,11 @@ contents s = take s.bytes (spill s.words)
 
 -- words below 2^64, and as many as the bytes take: w words for 8w - 7 to 8w bytes, and none for none
 abbrev pub WellFormed : Slice → Type 0
-WellFormed s = All (λ w. w < 2 ^ 64) s.words × (length s.words ≡ words_for s.bytes)
+WellFormed s = AllByRecursion (λ w. w < 2 ^ 64) s.words × (length s.words ≡ words_for s.bytes)
 
 -- the bytes of the last word that do not count are 0
 abbrev pub ZeroPadded : Slice → Type 0
-ZeroPadded s = All (λ b. b ≡ 0) (drop s.bytes (spill s.words))
+ZeroPadded s = AllByRecursion (λ b. b ≡ 0) (drop s.bytes (spill s.words))
 
 -- how many words slices have together
 abbrev pub weight : List Slice → ℕ

@@ -5,7 +5,7 @@ use lib.Bits.{bit_and, bit_or, or_shifted_r}
 use lib.Dec.{eqb-zero-suc, eqb-suc-suc}
 use lib.Pow.{mod-mod-pow}
 use lib.Seq.{take-append-add}
-use Rattle.std.specs.List.{flat_map, AllByRecursion as All}
+use Rattle.std.specs.List.{flat_map, AllByRecursion}
 use Rattle.std.proofs.lemmas.Nat.{shl-shr, shr-shr, shr_high, mod_low, mod-pow-add, field_of, mod_below, pow_pos, shr_le, one_shl, and_mask}
 use Rattle.std.proofs.ByRecursion.{All-append}
 use Rattle.std.proofs.lemmas.List.{take-append-drop, take_all, drop_all, take_at, length-take-le, length-drop, length_push}
@@ -116,7 +116,7 @@ module _ (below : Areas → List ℕ → ℕ → Bool) (a : Areas) where
 
 -- Words, and a tail of the n bits of w after them.
 pub record Kept (ws : List ℕ) (n w : ℕ) : Type 0 where
-  pub words : All (λ x. x < 2 ^ 64) ws
+  pub words : AllByRecursion (λ x. x < 2 ^ 64) ws
   pub few : n ≤ 63
   pub clean : w < 2 ^ n
   pub short : 64 * length ws + n ≤ L
@@ -286,7 +286,7 @@ module _ (j n w : ℕ) (few : n ≤ j) (clean : w < 2 ^ n) where
       ∙ from_bits-append (to_bits j v) (flat_map (to_bits j) ws ++ to_bits n w)
       ∙ (rw (length-to_bits j v, from_bits-to_bits j v h) (omega (arith, mul_comm (2 ^ j) (written ws))))
 
-  pub word_of : (ws : List ℕ) → All (λ x. x < 2 ^ j) ws → (k : ℕ) → k ≤ length ws → written ws / 2 ^ (j * k) % 2 ^ j ≡ get_or ws k w
+  pub word_of : (ws : List ℕ) → AllByRecursion (λ x. x < 2 ^ j) ws → (k : ℕ) → k ≤ length ws → written ws / 2 ^ (j * k) % 2 ^ j ≡ get_or ws k w
   word_of [] words zero h =
       let p : 0 < 2 = omega arith in
       rw (mul-zero, pow-zero, div-one, from_bits-to_bits n w clean) (mod-eq_of_lt (omega (arith, pow-le-pow_right p few)))

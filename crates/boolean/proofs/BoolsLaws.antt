@@ -1,7 +1,7 @@
 -- Bits of words, the groups of 64 and the rest, how a push changes them, and the laws of bools.
 use Rattle.std.proofs.Common.{◌≡◌, ℕ, zero, suc, ◌+◌, ◌*◌, ◌/◌, ◌^◌, ◌<◌, ◌≤◌, Bool, true, false, ◌&&◌, eqb, leb, List, [], ◌∷◌, ◌++◌, map, length, take, drop, Some, None, Option, sym, refl, ap, ◌∙◌, ap₂, append_assoc, append-nil, arith}
 use native.Mathlib.Nat.{pow-le-pow_right}
-use Rattle.std.specs.List.{flat_map, AllByRecursion as All}
+use Rattle.std.specs.List.{flat_map, AllByRecursion}
 use Rattle.std.proofs.lemmas.List.{length-append, length-map, length-drop, take-append-drop, drop_at, take_at, get_or_at, take_all, take_more, length_push, length-take-le}
 use Rattle.std.proofs.ByRecursion.{All-append, All-take, All-map, All-weaker}
 use Rattle.std.proofs.lemmas.Bool.{leb-true, le-leb, and_parts}
@@ -25,11 +25,11 @@ digit-back zero h = refl
 digit-back (suc zero) h = refl
 digit-back (suc (suc d)) h = absurd (omega arith)
 
-digits-back : (ds : List ℕ) → All (λ d. d < 2) ds → map bit (map (eqb 1) ds) ≡ ds
+digits-back : (ds : List ℕ) → AllByRecursion (λ d. d < 2) ds → map bit (map (eqb 1) ds) ≡ ds
 digits-back [] h = refl
 digits-back (d ∷ ds) h = ap₂ ◌∷◌ (digit-back d h.0) (digits-back ds h.1)
 
-bits-under : (bs : List Bool) → All (λ d. d < 2) (map bit bs)
+bits-under : (bs : List Bool) → AllByRecursion (λ d. d < 2) (map bit bs)
 bits-under [] = tt
 bits-under (true ∷ bs) = (omega arith, bits-under bs)
 bits-under (false ∷ bs) = (omega arith, bits-under bs)
@@ -54,15 +54,15 @@ from_bits-word bs h = let p : 0 < 2 = omega arith in omega (arith, from_bits-lt 
 word_back : (c : List Bool) → length c ≡ 64 → to_bits 64 (from_bits c) ≡ c
 word_back c h = ap (λ n. to_bits n (from_bits c)) (sym h) ∙ to_bits-from_bits c
 
-groups-back : (cs : List (List Bool)) → All (λ c. length c ≡ 64) cs → flat_map (to_bits 64) (map from_bits cs) ≡ flat_map (λ c. c) cs
+groups-back : (cs : List (List Bool)) → AllByRecursion (λ c. length c ≡ 64) cs → flat_map (to_bits 64) (map from_bits cs) ≡ flat_map (λ c. c) cs
 groups-back [] h = refl
 groups-back (c ∷ cs) h = ap₂ ◌++◌ (word_back c h.0) (groups-back cs h.1)
 
-words_back : (ws : List ℕ) → All (λ w. w < 2 ^ 64) ws → map from_bits (map (to_bits 64) ws) ≡ ws
+words_back : (ws : List ℕ) → AllByRecursion (λ w. w < 2 ^ 64) ws → map from_bits (map (to_bits 64) ws) ≡ ws
 words_back [] h = refl
 words_back (w ∷ ws) h = ap₂ ◌∷◌ (from_bits-to_bits 64 w h.0) (words_back ws h.1)
 
-full : (xs : List Bool) → All (λ c. length c ≡ 64) (chunks 64 (length xs / 64) xs)
+full : (xs : List Bool) → AllByRecursion (λ c. length c ≡ 64) (chunks 64 (length xs / 64) xs)
 full xs = all-chunks 64 (length xs / 64) xs (omega arith)
 
 pub split : (xs : List Bool) → xs ≡ flat_map (to_bits 64) (groups xs) ++ rest xs
@@ -82,7 +82,7 @@ groups-fit xs =
     (All-map (λ w. w < 2 ^ 64) from_bits (chunks 64 (length xs / 64) xs)
     (All-weaker (λ c. length c ≡ 64) (λ c. from_bits c < 2 ^ 64) (λ c h. from_bits-word c (omega arith)) (chunks 64 (length xs / 64) xs) (full xs)))
 
-pub all-64 : (ws : List ℕ) → All (λ w. length (to_bits 64 w) ≡ 64) ws
+pub all-64 : (ws : List ℕ) → AllByRecursion (λ w. length (to_bits 64 w) ≡ 64) ws
 all-64 = all-always (λ w. length (to_bits 64 w) ≡ 64) (length-to_bits 64)
 
 pub length-bits : (ws : List ℕ) → length (flat_map (to_bits 64) ws) ≡ 64 * length ws
@@ -92,7 +92,7 @@ length-bits ws = length-joined (to_bits 64) 64 ws (all-64 ws)
 abbrev pub Stands : List Bool → List ℕ → List Bool → Type 0
 Stands xs ws bs = (groups xs ≡ ws) × (rest xs ≡ bs)
 
-pub unique : (xs : List Bool) (ws : List ℕ) (bs : List Bool) → xs ≡ flat_map (to_bits 64) ws ++ bs → length bs ≤ 63 → All (λ w. w < 2 ^ 64) ws → Stands xs ws bs
+pub unique : (xs : List Bool) (ws : List ℕ) (bs : List Bool) → xs ≡ flat_map (to_bits 64) ws ++ bs → length bs ≤ 63 → AllByRecursion (λ w. w < 2 ^ 64) ws → Stands xs ws bs
 unique xs ws bs e l h =
     let ys = flat_map (to_bits 64) ws in
     let n : length xs / 64 ≡ length ws = omega (arith, ap length e, length-append ys bs, length-bits ws) in (
@@ -178,7 +178,7 @@ module _ (W : Format ℕ) where
       }
 
 module _ (W : Format ℕ) (laws : Laws is_word W) where
-  shape : (xs : List Bool) → length xs ≤ L → (length ((bools_format W).writing xs) ≡ W.slots + 1) × All WellFormed ((bools_format W).writing xs) × All ZeroPadded ((bools_format W).writing xs)
+  shape : (xs : List Bool) → length xs ≤ L → (length ((bools_format W).writing xs) ≡ W.slots + 1) × AllByRecursion WellFormed ((bools_format W).writing xs) × AllByRecursion ZeroPadded ((bools_format W).writing xs)
   shape xs h =
       let g = laws.shape (groups xs) (held-groups xs h) in
       let r = length_rest xs in (
@@ -219,7 +219,7 @@ module _ (W : Format ℕ) (laws : Laws is_word W) where
         weight-append (W.writing (groups xs)) (tail xs ∷ []),
       )
 
-  given : (ss : List Slice) (xs : List Bool) → Accepted (bools_format W) ss xs → Accepted (bools_format W) ((bools_format W).giving ss) xs × All ZeroPadded ((bools_format W).giving ss)
+  given : (ss : List Slice) (xs : List Bool) → Accepted (bools_format W) ss xs → Accepted (bools_format W) ((bools_format W).giving ss) xs × AllByRecursion ZeroPadded ((bools_format W).giving ss)
   given ss xs a =
       let n = W.slots in
       let t = (slot ss n).words in

@@ -1,6 +1,6 @@
 -- The worked examples of the format, as one list: what the definitions give, and what they should.
 use Rattle.std.specs.Prelude.{◌≡◌, ℕ, ◌^◌, false, List, [], ◌∷◌, replicate, Ok, Err, Result}
-use Rattle.std.specs.List.{AllByRecursion as All}
+use Rattle.std.specs.List.{AllByRecursion}
 use Rattle.area.specs.declared.fault.Fault.{Fault}
 use Rattle.boolean.specs.Bools.{bools_format, bools_takes, bits_pushed}
 use Rattle.column.specs.Column.{cells}
@@ -42,4 +42,4 @@ examples =
     []
 
 abbrev pub ExamplesHold : Type 0
-ExamplesHold = All (λ e. e.given ≡ e.wanted) examples
+ExamplesHold = AllByRecursion (λ e. e.given ≡ e.wanted) examples

@@ -1,6 +1,6 @@
 -- The program `tables`: what a run of records makes of a table, and which lines it prints.
 use Rattle.std.specs.Prelude.{◌≡◌, ℕ, ◌+◌, Bool, true, cond, List, [], ◌∷◌, ◌++◌, map, length, is_some, Some, None, Ok, Err, Option}
-use Rattle.std.specs.List.{AllByRecursion as All}
+use Rattle.std.specs.List.{AllByRecursion}
 use Rattle.area.specs.Fault.{number_of}
 use Rattle.area.specs.Slice.{Slice}
 use Rattle.area.specs.declared.fault.Refusal.TheVariants.{NotTaken, UnknownRecord}
@@ -17,7 +17,7 @@ lines_of_image ss area n = elim (encode_answer ss area 0) [ Ok k ↦ ImageOf k �
 
 -- every record of an input could be read
 abbrev pub AllRead : {E : Type 0} → List (Option (Record E)) → Type 0
-AllRead = All (λ r. is_some r ≡ true)
+AllRead = AllByRecursion (λ r. is_some r ≡ true)
 
 -- t says what a table takes next, w how a list is written, and `area` is lent for images
 module _ {E : Type 0} (t : List E → E → Bool) (w : List E → List Slice) (area : List ℕ) where

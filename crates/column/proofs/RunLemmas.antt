@@ -1,7 +1,7 @@
 -- A run's cells: what a read, a write and a test of room say of its list. Its bytes, its words and its one slice.
 use Rattle.std.proofs.Common.{◌≡◌, ℕ, zero, suc, ◌+◌, ◌-◌, ◌*◌, ◌/◌, ◌%◌, ◌^◌, ◌<◌, ◌≤◌, min, Bool, true, false, cond, ltb, leb, ◌⊎◌, List, [], ◌∷◌, ◌++◌, length, get_or, take, drop, set, Ok, Err, sym, refl, ap, ◌∙◌, ⊎_elim, mod-lt, mod-eq_of_lt, mul_comm, mul-le-mul_left, arith, lit<, length-drop, length-take}
 use native.Mathlib.Nat.{mul-div-le, div-add-mod, pow-le-pow_right}
-use Rattle.std.specs.List.{flat_map, AllByRecursion as All}
+use Rattle.std.specs.List.{flat_map, AllByRecursion}
 use Rattle.std.proofs.ByRecursion.{All-drop, All-take}
 use Rattle.std.proofs.lemmas.List.{drop_all, get_or-drop, get_or-map, get_or_past, get_or-take, take_more_set}
 use Rattle.std.proofs.lemmas.Bool.{and_from, cases_lt, le-leb, le-ltb, leb-true, lt-leb, lt-ltb}
@@ -54,7 +54,7 @@ module _ {E : Type 0} (fits : E → Bool) (C : Codec E) (O : OneToOne fits C) (x
       inside : p / n < length xs → get_or (C.bytes x) (p % n) 0 ≡ get_or (flat_map C.bytes xs) p 0
       inside l =
           let same : x ≡ get_or xs (p / n) x = cc (e, element-at xs (p / n) x l) in
-          let all : All (λ y. length (C.bytes y) ≡ n) xs = rw size (sizes fits C O xs h) in
+          let all : AllByRecursion (λ y. length (C.bytes y) ≡ n) xs = rw size (sizes fits C O xs h) in
           let positive : 0 < n = rw size O.positive in
           ap (λ y. get_or (C.bytes y) (p % n) 0) same
           ∙ sym (get_or-joined C.bytes n xs (p / n) (p % n) 0 x all l (mod-lt p positive))

@@ -1,6 +1,6 @@
 -- Element types that match byte strings of one nonzero size, one to one.
 use Rattle.std.specs.Prelude.{◌≡◌, ℕ, ◌<◌, Bool, true, List, length}
-use Rattle.std.specs.List.{AllByRecursion as All}
+use Rattle.std.specs.List.{AllByRecursion}
 use Rattle.area.specs.Digits.{number, digits}
 
 pub record Codec (E : Type 0) : Type 0 where
@@ -9,7 +9,7 @@ pub record Codec (E : Type 0) : Type 0 where
   pub value : List ℕ → E
 
 abbrev pub Bytes : List ℕ → Type 0
-Bytes = All (λ b. b < 256)
+Bytes = AllByRecursion (λ b. b < 256)
 
 pub record OneToOne {E : Type 0} (fits : E → Bool) (C : Codec E) : Type 0 where
   pub positive : 0 < C.size

@@ -1,6 +1,6 @@
 -- Kinds: how a list of elements is written as slices, how slices are read, and the laws that join the two.
 use Rattle.std.specs.Prelude.{◌≡◌, ℕ, ◌+◌, ◌≤◌, Bool, true, cond, ◌&&◌, List, [], ◌∷◌, length, Some, None, Option, nat_le, slice_index, slice_index_or}
-use Rattle.std.specs.List.{AllByRecursion as All}
+use Rattle.std.specs.List.{AllByRecursion}
 use Rattle.area.specs.Slice.{Slice, WellFormed, ZeroPadded, weight}
 
 -- no list has more elements
@@ -37,13 +37,13 @@ Held fits xs = (every fits xs ≡ true) × (length xs ≤ L)
 -- slices of the kind's number that are accepted and read as xs
 pub record Accepted {E : Type 0} (F : Format E) (ss : List Slice) (xs : List E) : Type 0 where
   pub count : length ss ≡ F.slots
-  pub formed : All WellFormed ss
+  pub formed : AllByRecursion WellFormed ss
   pub fitting : F.sized ss ≡ None
   pub reading : F.reading ss ≡ reads xs
 
 pub record Laws {E : Type 0} (fits : E → Bool) (F : Format E) : Type 0 where
   -- what is written is the kind's number of slices, each zero padded
-  pub shape : (xs : List E) → Held fits xs → (length (F.writing xs) ≡ F.slots) × All WellFormed (F.writing xs) × All ZeroPadded (F.writing xs)
+  pub shape : (xs : List E) → Held fits xs → (length (F.writing xs) ≡ F.slots) × AllByRecursion WellFormed (F.writing xs) × AllByRecursion ZeroPadded (F.writing xs)
   -- Return: what is written is accepted and reads as the list
   pub return : (xs : List E) → Held fits xs → (F.sized (F.writing xs) ≡ None) × (F.reading (F.writing xs) ≡ reads xs)
   -- what is read is a list that the kind writes
@@ -51,7 +51,7 @@ pub record Laws {E : Type 0} (fits : E → Bool) (F : Format E) : Type 0 where
   -- Least: accepted slices with the same reading have together at least as many words
   pub least : (ss : List Slice) (xs : List E) → Accepted F ss xs → weight (F.writing xs) ≤ weight ss
   -- what a read form gives is zero padded, accepted, and reads as the same list
-  pub given : (ss : List Slice) (xs : List E) → Accepted F ss xs → Accepted F (F.giving ss) xs × All ZeroPadded (F.giving ss)
+  pub given : (ss : List Slice) (xs : List E) → Accepted F ss xs → Accepted F (F.giving ss) xs × AllByRecursion ZeroPadded (F.giving ss)
 
 -- the slice at a place; past the end, one with no word
 abbrev pub slot : List Slice → ℕ → Slice

@@ -3,7 +3,7 @@ use Rattle.std.specs.Prelude.{◌≡◌, ℕ, ◌*◌, ◌/◌, ◌%◌, ◌^◌
 use Rattle.std.proofs.Common.{ap, ◌∙◌, add-zero, arith, lit<}
 use Rattle.std.proofs.Math.Nat.{mul-mod_right, mul-div_cancel_left, div-add-mod, mul-div-le}
 use Rattle.std.proofs.lemmas.List.{length-map}
-use Rattle.std.specs.List.{flat_map, AllByRecursion as All}
+use Rattle.std.specs.List.{flat_map, AllByRecursion}
 use Rattle.std.proofs.ByRecursion.{All-weaker}
 use Rattle.std.proofs.lemmas.Bool.{lt-ltb, ltb-true, le-leb, leb-true, eqb-true}
 use Rattle.area.specs.Digits.{number, chunks}
@@ -29,13 +29,13 @@ module _ {E : Type 0} (fits : E → Bool) (C : Codec E) (O : OneToOne fits C) wh
   strings xs h = all-joined (λ b. b < 256) C.bytes xs
       (All-weaker (λ x. fits x ≡ true) (λ x. Bytes (C.bytes x)) (λ x f. (O.string x f).1) xs (all_from_every fits xs h))
 
-  pub sizes : (xs : List E) → every fits xs ≡ true → All (λ x. length (C.bytes x) ≡ C.size) xs
+  pub sizes : (xs : List E) → every fits xs ≡ true → AllByRecursion (λ x. length (C.bytes x) ≡ C.size) xs
   sizes xs h = All-weaker (λ x. fits x ≡ true) (λ x. length (C.bytes x) ≡ C.size) (λ x f. (O.string x f).0) xs (all_from_every fits xs h)
 
   pub length-strings : (xs : List E) → every fits xs ≡ true → length (flat_map C.bytes xs) ≡ C.size * length xs
   length-strings xs h = length-joined C.bytes C.size xs (sizes xs h)
 
-  values : (xs : List E) → All (λ x. fits x ≡ true) xs → map C.value (map C.bytes xs) ≡ xs
+  values : (xs : List E) → AllByRecursion (λ x. fits x ≡ true) xs → map C.value (map C.bytes xs) ≡ xs
   values [] h = refl
   values (x ∷ xs) h = rw (O.back x h.0, values xs h.1)
 
@@ -54,7 +54,7 @@ module _ {E : Type 0} (fits : E → Bool) (C : Codec E) (O : OneToOne fits C) wh
   )
 
   -- what a well-formed slice with no refusal holds
-  fit-chunks : (cs : List (List ℕ)) → All (λ c. length c ≡ C.size) cs → All Bytes cs → All (λ x. fits x ≡ true) (map C.value cs)
+  fit-chunks : (cs : List (List ℕ)) → AllByRecursion (λ c. length c ≡ C.size) cs → AllByRecursion Bytes cs → AllByRecursion (λ x. fits x ≡ true) (map C.value cs)
   fit-chunks [] k h = tt
   fit-chunks (c ∷ cs) k h = ((O.forth c k.0 h.0).1, fit-chunks cs k.1 h.1)
 
@@ -92,7 +92,7 @@ module _ {E : Type 0} (fits : E → Bool) (C : Codec E) (O : OneToOne fits C) wh
       let h = held_by ss xs a in
       omega (arith, length-pack (flat_map C.bytes xs), length-strings xs h.fit)
 
-  given : (ss : List Slice) (xs : List E) → Accepted (run_format C) ss xs → Accepted (run_format C) ((run_format C).giving ss) xs × All ZeroPadded ((run_format C).giving ss)
+  given : (ss : List Slice) (xs : List E) → Accepted (run_format C) ss xs → Accepted (run_format C) ((run_format C).giving ss) xs × AllByRecursion ZeroPadded ((run_format C).giving ss)
   given ss xs a =
       let s : Slice = slot ss 0 in
       let u = contents-under s in

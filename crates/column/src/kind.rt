@@ -1,6 +1,6 @@
 // The interfaces: a kind fixes the format, and a column is a list of a kind in lent memory.
 ghost use Rattle.std.specs.Prelude.{◌≡◌, ℕ, min, Bool, true, List, [], ◌∷◌, ◌++◌, length};
-ghost use Rattle.std.specs.List.{AllByRecursion as All};
+ghost use Rattle.std.specs.List.{AllByRecursion};
 ghost use Rattle.area.specs.Slice.{Slice, WellFormed};
 ghost use Rattle.column.specs.Kind.{Format, Laws, Held, CAP};
 ghost use Rattle.column.specs.Column.{Areas, element, push_answer, pushed, slice_length, word_in_slice};
@@ -38,7 +38,7 @@ pub trait AsBytes: Index {
     // The number of slices, or 536,870,911 where there are more.
     fn slices(&self) -> usize
         ensures count { Self.sound self.now → result ≡ min (length (slices self.now)) CAP }
-        ensures formed { Self.sound self.now → All WellFormed (slices self.now) };
+        ensures formed { Self.sound self.now → AllByRecursion WellFormed (slices self.now) };
 
     // The byte length of slice `k`; 10 past the slices, 15 where no image holds so many bytes.
     fn slice_len(&self, k: usize) -> Result<usize, Fault>

@@ -1,7 +1,7 @@
 -- The slices of a byte area are parts of it.
 use Rattle.std.proofs.Common.{◌≡◌, ℕ, zero, suc, ◌+◌, ◌-◌, ◌*◌, ◌/◌, ◌%◌, ◌<◌, ◌≤◌, eqb, leb, List, [], ◌∷◌, length, take, drop, None, Ok, Err, sym, refl, ap, ◌∙◌, ⊎_elim, append-nil, add_comm, mul-suc, arith, lit<, take-take, drop-drop, take-add}
 use lib.Seq.{drop-nil, take-nil}
-use Rattle.std.specs.List.{AllByRecursion as All}
+use Rattle.std.specs.List.{AllByRecursion}
 use Rattle.std.proofs.lemmas.Bool.{and_parts, cases_lt, eqb-true, lt-ltb}
 use Rattle.area.specs.Fault.{refuse}
 use Rattle.area.specs.declared.fault.Fault.{Fault}
@@ -28,12 +28,12 @@ spill-take (suc n) [] = sym (take-nil (8 * suc n))
 spill-take (suc n) (w ∷ ws) = rw (spill-take n ws, mul-suc, add_comm, take-add 8 (8 * n) (spill (w ∷ ws)))
 
 -- whole words as bytes again
-pub spill-join_words : (bs : List ℕ) → All (λ b. b < 256) bs → length bs % 8 ≡ 0 → spill (join_words bs) ≡ bs
+pub spill-join_words : (bs : List ℕ) → AllByRecursion (λ b. b < 256) bs → length bs % 8 ≡ 0 → spill (join_words bs) ≡ bs
 spill-join_words bs h m =
     let z : 8 * (length bs / 8) - length bs ≡ 0 = omega arith in
     joined-digits 256 8 (length bs / 8) bs h (omega arith) ∙ rw z (append-nil bs)
 
-pub contents-join_words : (bs : List ℕ) (p n : ℕ) → All (λ b. b < 256) bs → length bs % 8 ≡ 0 → contents (slice_at (join_words bs) p n) ≡ take n (drop (8 * p) bs)
+pub contents-join_words : (bs : List ℕ) (p n : ℕ) → AllByRecursion (λ b. b < 256) bs → length bs % 8 ≡ 0 → contents (slice_at (join_words bs) p n) ≡ take n (drop (8 * p) bs)
 contents-join_words bs p n h m =
     rw (spill-take (words_for n) (drop p (join_words bs)), spill-drop p (join_words bs), spill-join_words bs h m)
     (take-take n (8 * words_for n) (drop (8 * p) bs) (omega arith))
@@ -43,7 +43,7 @@ module _ (bs : List ℕ) (h : bytes_fault bs ≡ None) where
   words-asked = (ask-passed (length_stands bs) _ _ _ h).1
 
   -- a store of just these words
-  pub area-sound : {S : Type 0} (f : S → List ℕ) (d : DecodedStore S) → f d.store.now ≡ join_words bs → d.count ≡ length (slices_of (join_words bs)) → All (λ b. b < 256) bs → DecodedSound f d
+  pub area-sound : {S : Type 0} (f : S → List ℕ) (d : DecodedStore S) → f d.store.now ≡ join_words bs → d.count ≡ length (slices_of (join_words bs)) → AllByRecursion (λ b. b < 256) bs → DecodedSound f d
   area-sound f d e c u = record { asked = rw e words-asked; counted = rw e c; whole = rw e (chunks-under 256 8 (length bs / 8) bs (lit< tt) u) }
 
   whole_words : length bs % 8 ≡ 0
@@ -71,7 +71,7 @@ module _ (bs : List ℕ) (h : bytes_fault bs ≡ None) where
         let w = whole_words in
         (omega arith, omega arith)
 
-    pub part-found : (p n : ℕ) → All (λ b. b < 256) bs → p ≡ 8 * s.from → n ≡ s.bytes → (k < length (slices_of (join_words bs))) × ((take n (drop p bs) ≡ part_of bs k) × (take n (drop p bs) ≡ contents (slot (slices_of (join_words bs)) k)))
+    pub part-found : (p n : ℕ) → AllByRecursion (λ b. b < 256) bs → p ≡ 8 * s.from → n ≡ s.bytes → (k < length (slices_of (join_words bs))) × ((take n (drop p bs) ≡ part_of bs k) × (take n (drop p bs) ≡ contents (slot (slices_of (join_words bs)) k)))
     part-found p n u q r =
         let e : take n (drop p bs) ≡ part_of bs k = rw (q, r, found.1) refl in
         (found.0, (e, e ∙ (sym (contents-join_words bs (span_of (join_words bs) k).from (span_of (join_words bs) k).bytes u whole_words) ∙ ap contents (span-slice (join_words bs) words-asked k found.0))))

@@ -1,6 +1,6 @@
 -- An index read back: the questions that are put to words before a kind looks at them, and the slices that they hold.
 use Rattle.std.specs.Prelude.{◌≡◌, ℕ, suc, ◌+◌, ◌-◌, ◌*◌, ◌/◌, ◌%◌, ◌^◌, ◌<◌, ◌≤◌, Bool, true, cond, ◌&&◌, List, [], ◌∷◌, length, take, drop, Some, None, Ok, Err, Option, Result, ◌==◌, nat_le, nat_lt, slice_index}
-use Rattle.std.specs.List.{AllByRecursion as All}
+use Rattle.std.specs.List.{AllByRecursion}
 use Rattle.area.specs.Fault.{refuse}
 use Rattle.area.specs.Slice.{Slice, words_for, round_up, contents}
 use Rattle.area.specs.declared.fault.Fault.{Fault}
@@ -86,7 +86,7 @@ module _ {S : Type 0} (f : S → List ℕ) where
   pub record DecodedSound (d : DecodedStore S) : Type 0 where
     pub asked : structure_fault None (f d.store.now) ≡ None
     pub counted : d.count ≡ length (slices_of (f d.store.now))
-    pub whole : All (λ w. w < 2 ^ 64) (f d.store.now)
+    pub whole : AllByRecursion (λ w. w < 2 ^ 64) (f d.store.now)
 
   -- what passes the questions is decoded; all else is refused with the first that it fails
   abbrev pub decoded_answer : Option ℕ → S → Result (DecodedStore S) Fault → Type 0

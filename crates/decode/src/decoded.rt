@@ -1,6 +1,6 @@
 // A store whose index was looked at, so that its slices can be found.
 ghost use Rattle.std.specs.Prelude.{◌≡◌, suc, ◌+◌, ◌*◌, ◌^◌, ◌<◌, ◌≤◌, length, take, drop, Some, None};
-ghost use Rattle.std.specs.List.{AllByRecursion as All};
+ghost use Rattle.std.specs.List.{AllByRecursion};
 ghost use Rattle.column.specs.Kind.{CAP, slot};
 ghost use Rattle.decode.specs.Decode.{DecodedSound, Inside, decoded_answer, ends_fault, index_answer, or_fault, slice_in, slices_of, span_answer, span_of};
 
@@ -19,7 +19,7 @@ pub struct DecodedStore<'s, S> {
 // Questions 1 to 4: how many slices the index has.
 fn slices_in<S: Store>(store: &S) -> Result<usize, Fault>
     ensures answer { result ≡ index_answer (S.Store.words store.now) }
-    ensures whole { All (λ w. w < 2 ^ 64) (S.Store.words store.now) }
+    ensures whole { AllByRecursion (λ w. w < 2 ^ 64) (S.Store.words store.now) }
 {
     let count = store.count();
     if count > MAX_WORDS {

@@ -2,7 +2,7 @@
 use Rattle.std.proofs.Common.{◌≡◌, ℕ, zero, suc, ◌+◌, ◌*◌, ◌/◌, ◌<◌, ◌≤◌, min, ◌&&◌, leb, List, [], ◌∷◌, ◌++◌, length, get_or, take, drop, set, IsErrAnd, Ok, Err, Result, sym, refl, ap, ◌∙◌, append-nil, arith, length-append, length-drop, take-append-drop, take_at}
 use borrow.Rule.Slice.PartMut.{put_mid}
 use lib.Seq.{paste, take-length}
-use Rattle.std.specs.List.{between, AllByRecursion as All}
+use Rattle.std.specs.List.{between, AllByRecursion}
 use Rattle.std.proofs.ByRecursion.{All-get_or}
 use Rattle.std.proofs.lemmas.List.Edits.{length-between, paste_more, paste-paste}
 use Rattle.std.proofs.lemmas.List.{take_more, take_all, drop_all}
@@ -45,7 +45,7 @@ pub weight-take : (ss : List Slice) (k : ℕ) → weight (take k ss) ≤ weight 
 weight-take ss k = omega (arith, sym (weight-append (take k ss) (drop k ss)) ∙ ap weight (take-append-drop k ss))
 
 -- a slice has the words that its bytes take
-pub length-slot : (ss : List Slice) (k : ℕ) → All WellFormed ss → k < length ss → length (slot ss k).words ≡ words_for (slot ss k).bytes
+pub length-slot : (ss : List Slice) (k : ℕ) → AllByRecursion WellFormed ss → k < length ss → length (slot ss k).words ≡ words_for (slot ss k).bytes
 length-slot ss k w h = (All-get_or WellFormed ss k (record { words = []; bytes = 0 }) h w).1
 
 -- what the length of a slice tells
@@ -58,7 +58,7 @@ length-known ss k n h = sym h ∙ ap Ok (length-ok ss k n h).0
 pub length-err : (ss : List Slice) (k : ℕ) (f : Fault) → k < min (length ss) CAP → Err f ≡ slice_length ss k → (f ≡ refuse ImageTooLong 0) × (8 * CAP < (slot ss k).bytes)
 length-err ss k f l h = grind (arith, nat_tests)
 
-pub long-err : (ss : List Slice) (k : ℕ) (f : Fault) → All WellFormed ss → k < min (length ss) CAP → Err f ≡ slice_length ss k → (f ≡ refuse ImageTooLong 0) × (CAP < length (image ss))
+pub long-err : (ss : List Slice) (k : ℕ) (f : Fault) → AllByRecursion WellFormed ss → k < min (length ss) CAP → Err f ≡ slice_length ss k → (f ≡ refuse ImageTooLong 0) × (CAP < length (image ss))
 long-err ss k f w l h =
     let q = length-err ss k f l h in
     (q.0, omega (arith, q.1, length-image ss, weight-more ss k (omega arith), length-slot ss k w (omega arith), weight-take ss (k + 1)))
@@ -71,14 +71,14 @@ pub short : (ss : List Slice) (n : ℕ) → n ≡ length (image ss) → n ≤ CA
 short ss n e l = grind (arith, nat_tests)
 
 -- the exit of a `?` at such a slice
-pub exit-long : {r : Result ℕ Fault} (ss : List Slice) (k : ℕ) (f : Fault) → IsErrAnd r (λ y. y ≡ f) → All WellFormed ss → k < min (length ss) CAP → Err f ≡ slice_length ss k → r ≡ word_length_answer ss
+pub exit-long : {r : Result ℕ Fault} (ss : List Slice) (k : ℕ) (f : Fault) → IsErrAnd r (λ y. y ≡ f) → AllByRecursion WellFormed ss → k < min (length ss) CAP → Err f ≡ slice_length ss k → r ≡ word_length_answer ss
 exit-long {r} ss k f e w l h =
     let p = err_from_is_err_and r e in
     let q = long-err ss k f w l h in
     p.1 ∙ too_long ss p.0 (p.2 ∙ q.0) q.1
 
 -- where a slice ends, if the first starts at word q
-pub get_or-ends : (ss : List Slice) (q k : ℕ) → All WellFormed ss → k < length ss → get_or (ends (8 * q) ss) k 0 ≡ 8 * (q + weight (take k ss)) + (slot ss k).bytes
+pub get_or-ends : (ss : List Slice) (q k : ℕ) → AllByRecursion WellFormed ss → k < length ss → get_or (ends (8 * q) ss) k 0 ≡ 8 * (q + weight (take k ss)) + (slot ss k).bytes
 get_or-ends [] q k w l = absurd (omega arith)
 get_or-ends (s ∷ ss) q zero w l = omega arith
 get_or-ends (s ∷ ss) q (suc k) w l =
@@ -86,14 +86,14 @@ get_or-ends (s ∷ ss) q (suc k) w l =
     rw e (get_or-ends ss (q + length s.words) k w.1 (omega arith) ∙ omega arith)
 
 -- the words of a slice as the loops count them, m being its bytes and 7 more
-pub words-turn : (ss : List Slice) (k n m : ℕ) → All WellFormed ss → Ok n ≡ slice_length ss k → m ≡ min (n + 7) 18446744073709551615 → m / 8 ≡ length (slot ss k).words
+pub words-turn : (ss : List Slice) (k n m : ℕ) → AllByRecursion WellFormed ss → Ok n ≡ slice_length ss k → m ≡ min (n + 7) 18446744073709551615 → m / 8 ≡ length (slot ss k).words
 words-turn ss k n m w h e = let q = length-ok ss k n h in omega (arith, q.0, q.2, length-slot ss k w q.1)
 
-pub weight-turn : (ss : List Slice) (k n m : ℕ) → All WellFormed ss → Ok n ≡ slice_length ss k → m ≡ min (n + 7) 18446744073709551615 → weight (take (k + 1) ss) ≡ weight (take k ss) + m / 8
+pub weight-turn : (ss : List Slice) (k n m : ℕ) → AllByRecursion WellFormed ss → Ok n ≡ slice_length ss k → m ≡ min (n + 7) 18446744073709551615 → weight (take (k + 1) ss) ≡ weight (take k ss) + m / 8
 weight-turn ss k n m w h e = omega (arith, words-turn ss k n m w h e, weight-more ss k (length-ok ss k n h).1)
 
 -- one turn of the index: p is where slice k starts, e where it ends, and m is 7 past that
-pub index-turn : (ss : List Slice) (k n p e m : ℕ) → All WellFormed ss → Ok n ≡ slice_length ss k → length (image ss) ≤ CAP → p ≡ 8 * (1 + length ss + weight (take k ss)) → e ≡ min (p + n) 18446744073709551615 → m ≡ min (e + 7) 18446744073709551615 → (m / 8 * 8 ≡ 8 * (1 + length ss + weight (take (k + 1) ss))) × (e ≡ get_or (ends (8 * (1 + length ss)) ss) k 0)
+pub index-turn : (ss : List Slice) (k n p e m : ℕ) → AllByRecursion WellFormed ss → Ok n ≡ slice_length ss k → length (image ss) ≤ CAP → p ≡ 8 * (1 + length ss + weight (take k ss)) → e ≡ min (p + n) 18446744073709551615 → m ≡ min (e + 7) 18446744073709551615 → (m / 8 * 8 ≡ 8 * (1 + length ss + weight (take (k + 1) ss))) × (e ≡ get_or (ends (8 * (1 + length ss)) ss) k 0)
 index-turn ss k n p e m w h l a b d =
     let q = length-ok ss k n h in
     let z : 8 * (1 + length ss + weight (take (k + 1) ss)) ≤ 8 * CAP = omega (arith, length-image ss, weight-take ss (k + 1)) in

@@ -3,7 +3,7 @@ use Rattle.std.proofs.Common.{◌≡◌, ℕ, zero, suc, ◌+◌, ◌-◌, ◌*�
 use native.Mathlib.Nat.{div-div-eq-div-mul, sub-zero}
 use lib.ListN.{length-map}
 use lib.Seq.{take-length, split_at, get_or_at}
-use Rattle.std.specs.List.{flat_map, AllByRecursion as All}
+use Rattle.std.specs.List.{flat_map, AllByRecursion}
 use Rattle.std.proofs.lemmas.List.{take_more, get_or-map, drop-replicate, take-replicate}
 use Rattle.std.proofs.lemmas.Slice.{between_is}
 use Rattle.std.proofs.lemmas.Bool.{cases_lt, lt-ltb, le-leb, lt-leb, eq-eqb, ne_eqb, cond-true, cond-false}
@@ -153,14 +153,14 @@ pub le_bytes : (w : ℕ) → (w % 256) ∷ (w / 256 % 256) ∷ (w / 65536 % 256)
 le_bytes w = simp div-div-eq-div-mul
 
 -- the piece of index word k, where slice k starts at p and ends at e
-pub end-piece : (ss : List Slice) (k n p e : ℕ) (bs : List ℕ) → All WellFormed ss → Ok n ≡ slice_length ss k → length (image ss) ≤ CAP → p ≡ 8 * (1 + length ss + weight (take k ss)) → e ≡ min (p + n) 18446744073709551615 → bs ≡ digits 256 8 e → (k < length (map (digits 256 8) (ends (8 * (1 + length ss)) ss))) × (bs ≡ get_or (map (digits 256 8) (ends (8 * (1 + length ss)) ss)) k [])
+pub end-piece : (ss : List Slice) (k n p e : ℕ) (bs : List ℕ) → AllByRecursion WellFormed ss → Ok n ≡ slice_length ss k → length (image ss) ≤ CAP → p ≡ 8 * (1 + length ss + weight (take k ss)) → e ≡ min (p + n) 18446744073709551615 → bs ≡ digits 256 8 e → (k < length (map (digits 256 8) (ends (8 * (1 + length ss)) ss))) × (bs ≡ get_or (map (digits 256 8) (ends (8 * (1 + length ss)) ss)) k [])
 end-piece ss k n p e bs w h l a b d =
     let es = ends (8 * (1 + length ss)) ss in
     let m : k < length es = omega (arith, length-ends (8 * (1 + length ss)) ss, (length-ok ss k n h).1) in
     (omega (arith, length-map es (digits 256 8)), d ∙ ap (digits 256 8) (index-turn ss k n p e (min (e + 7) 18446744073709551615) w h l a b refl).1 ∙ sym (get_or-map (digits 256 8) es k 0 [] m))
 
 -- each slice of a short image has a length
-pub length-there : (ss : List Slice) (k : ℕ) → All WellFormed ss → k < length ss → length (image ss) ≤ CAP → slice_length ss k ≡ Ok (slot ss k).bytes
+pub length-there : (ss : List Slice) (k : ℕ) → AllByRecursion WellFormed ss → k < length ss → length (image ss) ≤ CAP → slice_length ss k ≡ Ok (slot ss k).bytes
 length-there ss k w h l =
     let m : length ss < CAP = omega (arith, length-image ss) in
     let b : (slot ss k).bytes ≤ 8 * CAP = omega (arith, length-image ss, weight-more ss k h, length-slot ss k w h, weight-take ss (k + 1)) in
@@ -215,12 +215,12 @@ length-padding : (n : ℕ) → length (padding n) ≤ 1
 length-padding zero = omega arith
 length-padding (suc n) = omega arith
 
-length-slices : (ss : List Slice) → All WellFormed ss → length (flat_map slice_pieces ss) ≤ weight ss + length ss
+length-slices : (ss : List Slice) → AllByRecursion WellFormed ss → length (flat_map slice_pieces ss) ≤ weight ss + length ss
 length-slices [] w = omega arith
 length-slices (s ∷ ss) w =
     omega (arith, length-slices ss w.1, w.0.1, length-padding (s.bytes % 8), length-append (slice_pieces s) (flat_map slice_pieces ss), length-append (chunks 8 (words_for s.bytes) (contents s)) (padding (s.bytes % 8)), length-chunks 8 (words_for s.bytes) (contents s))
 
-pub length-pieces : (ss : List Slice) → All WellFormed ss → length (image ss) ≤ CAP → length (pieces ss) ≤ 18446744073709551615
+pub length-pieces : (ss : List Slice) → AllByRecursion WellFormed ss → length (image ss) ≤ CAP → length (pieces ss) ≤ 18446744073709551615
 length-pieces ss w l =
     omega (arith, length-slices ss w, length-image ss, length-append (map (digits 256 8) (index ss)) (flat_map slice_pieces ss), length-map (index ss) (digits 256 8), length-ends (8 * (1 + length ss)) ss)
 
@@ -231,7 +231,7 @@ store-turn ws i w bs e q =
     (omega (arith, length-map ws (digits 256 8), r.0), q ∙ ap (digits 256 8) (sym r.1) ∙ sym (get_or-map (digits 256 8) ws i 0 [] r.0))
 
 -- the pieces of zero-padded slices joined are the bytes of the image's words
-zeros : (bs : List ℕ) → All (λ b. b ≡ 0) bs → bs ≡ replicate (length bs) 0
+zeros : (bs : List ℕ) → AllByRecursion (λ b. b ≡ 0) bs → bs ≡ replicate (length bs) 0
 zeros [] h = refl
 zeros (b ∷ bs) h = ap₂ ◌∷◌ h.0 (zeros bs h.1)
 
@@ -250,7 +250,7 @@ flat-slice s w z =
     ∙ ap₂ ◌++◌ (joined-chunks 8 n (contents s) ∙ take_all (8 * n) (contents s) (omega arith)) (flat-padding (s.bytes % 8) ∙ ap (λ m. replicate m 0) (sym e) ∙ sym (zeros (drop s.bytes (spill s.words)) z))
     ∙ take-append-drop s.bytes (spill s.words)
 
-flat-slices : (ss : List Slice) → All WellFormed ss → All ZeroPadded ss → flat (flat_map slice_pieces ss) ≡ spill (flat_map (λ s. s.words) ss)
+flat-slices : (ss : List Slice) → AllByRecursion WellFormed ss → AllByRecursion ZeroPadded ss → flat (flat_map slice_pieces ss) ≡ spill (flat_map (λ s. s.words) ss)
 flat-slices [] w z = refl
 flat-slices (s ∷ ss) w z =
     joined-append (λ p. p) (slice_pieces s) (flat_map slice_pieces ss)
@@ -261,7 +261,7 @@ flat-words : (ws : List ℕ) → flat (map (digits 256 8) ws) ≡ spill ws
 flat-words [] = refl
 flat-words (w ∷ ws) = ap (λ bs. digits 256 8 w ++ bs) (flat-words ws)
 
-pub pieces-spill : (ss : List Slice) → All WellFormed ss → All ZeroPadded ss → flat (pieces ss) ≡ spill (image ss)
+pub pieces-spill : (ss : List Slice) → AllByRecursion WellFormed ss → AllByRecursion ZeroPadded ss → flat (pieces ss) ≡ spill (image ss)
 pieces-spill ss w z =
     joined-append (λ p. p) (map (digits 256 8) (index ss)) (flat_map slice_pieces ss)
     ∙ ap₂ ◌++◌ (flat-words (index ss)) (flat-slices ss w z)

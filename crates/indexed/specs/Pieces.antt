@@ -1,6 +1,6 @@
 -- An image as pieces for a sink, and what a sink that takes them one after the other is left with.
 use Rattle.std.specs.Prelude.{◌≡◌, ℕ, zero, suc, ◌-◌, ◌%◌, ◌<◌, ◌≤◌, cond, List, [], ◌∷◌, ◌++◌, map, length, take, drop, replicate, Ok, Err, Result, ◌==◌, nat_le, slice_index_or}
-use Rattle.std.specs.List.{flat_map, AllByRecursion as All}
+use Rattle.std.specs.List.{flat_map, AllByRecursion}
 use Rattle.area.specs.Digits.{digits, chunks}
 use Rattle.area.specs.Fault.{refuse}
 use Rattle.area.specs.Slice.{Slice, ZeroPadded, words_for, contents, spill}
@@ -50,5 +50,5 @@ module _ {W F : Type 0} (taken : W → List ℕ) (room : W → ℕ) (beyond : W 
   -- of it was taken and the slices are zero padded, the sink has the bytes of the image's words.
   pub record Written (ss : List Slice) (s t : W) (r : Result (Unit {0}) (WriteFault F)) : Type 0 where
     pub short : length (image ss) ≤ CAP → Given (pieces ss) s t r
-    pub whole : r ≡ Ok tt → All ZeroPadded ss → taken t ≡ taken s ++ spill (image ss)
+    pub whole : r ≡ Ok tt → AllByRecursion ZeroPadded ss → taken t ≡ taken s ++ spill (image ss)
     pub long : CAP < length (image ss) → (r ≡ Err (TooLong (refuse ImageTooLong 0))) × (t ≡ s)

@@ -1,7 +1,7 @@
 // Writing an image to a sink, piece by piece: each index word, then slice by slice each word, the last cut, and any
 // zero padding.
 ghost use Rattle.std.specs.Prelude.{◌≡◌, ◌≤◌, [], ◌∷◌, map, length, Ok};
-ghost use Rattle.std.specs.List.{flat_map, AllByRecursion as All};
+ghost use Rattle.std.specs.List.{flat_map, AllByRecursion};
 ghost use Rattle.area.specs.Digits.{digits, chunks};
 ghost use Rattle.area.specs.Slice.{WellFormed, words_for, contents};
 ghost use Rattle.column.specs.Column.{slice_length};
@@ -45,7 +45,7 @@ fn write_index<A: AsBytes, W: WriteBytes>(
     sink: &mut W,
     piece: &mut usize,
 ) -> Result<(), WriteFault<W::Error>>
-    ensures formed { A.Index.sound item.now → All WellFormed (A.AsBytes.slices item.now) }
+    ensures formed { A.Index.sound item.now → AllByRecursion WellFormed (A.AsBytes.slices item.now) }
     ensures gives { A.Index.sound item.now → length (image (A.AsBytes.slices item.now)) ≤ CAP → Gives W.WriteBytes.taken W.WriteBytes.room W.WriteBytes.beyond W.WriteBytes.fault piece.old (map (digits 256 8) (index (A.AsBytes.slices item.now))) sink.old sink.new piece.new result }
 {
     let count = item.slices();

@@ -1,6 +1,6 @@
 -- The longest front of multiples, how a push changes it, and the laws of strides.
 use Rattle.std.proofs.Common.{◌≡◌, ℕ, zero, suc, ◌+◌, ◌-◌, ◌*◌, ◌^◌, ◌<◌, ◌≤◌, Bool, true, false, cond, ◌&&◌, eqb, ltb, leb, List, [], ◌∷◌, ◌++◌, map, length, get_or, drop, sym, refl, ap, ◌∙◌, ap₂, append_assoc, add_comm, mul-le-mul_left, mul-one, arith}
-use Rattle.std.specs.List.{range_with_len, AllByRecursion as All}
+use Rattle.std.specs.List.{range_with_len, AllByRecursion}
 use Rattle.std.proofs.lemmas.List.{length-append, length-drop, get_or_append_left, drop-append-le, nil_from_length}
 use Rattle.std.proofs.lemmas.List.FromFn.{length-map-range_with_len, get_or-map-range_with_len}
 use Rattle.std.proofs.ByRecursion.{All-get_or, All-from_get_or, All-append, All-drop}
@@ -136,7 +136,7 @@ product (x ∷ xs) h = last (front (x ∷ xs)) (front-positive x xs) (split (x �
         rw (at, up) at (All-get_or (λ y. y < 2 ^ 64) ys n 0 u (all_words ys h))
 
 -- multiples up to a product that fits a word fit a word
-multiples-fit : (s n : ℕ) → s * n < 2 ^ 64 → All (λ x. x < 2 ^ 64) (multiples s n)
+multiples-fit : (s n : ℕ) → s * n < 2 ^ 64 → AllByRecursion (λ x. x < 2 ^ 64) (multiples s n)
 multiples-fit s n h =
     All-from_get_or (λ x. x < 2 ^ 64) (multiples s n) 0
     (λ i l. let m : i + 1 ≤ n = omega (arith, length-multiples s n) in
@@ -214,7 +214,7 @@ module _ (B : Format ℕ) (laws : Laws is_word B) (heavy : (ys : List ℕ) → H
         length-multiples (word_of s 0) (word_of s 1),
       )
 
-  given : (ss : List Slice) (xs : List ℕ) → Accepted (strides_format B) ss xs → Accepted (strides_format B) ((strides_format B).giving ss) xs × All ZeroPadded ((strides_format B).giving ss)
+  given : (ss : List Slice) (xs : List ℕ) → Accepted (strides_format B) ss xs → Accepted (strides_format B) ((strides_format B).giving ss) xs × AllByRecursion ZeroPadded ((strides_format B).giving ss)
   given ss xs a =
       let b = (parts B ss xs a).below in
       let g = laws.given (drop 1 ss) _ b in

@@ -1,6 +1,6 @@
 -- Parts of decoded slices, what accepted slices read as, and what the answers on slices and on forms say.
 use Rattle.std.proofs.Common.{◌≡◌, ℕ, ◌+◌, ◌^◌, ◌<◌, ◌≤◌, Bool, true, false, cond, List, [], ◌∷◌, length, get_or, take, drop, Some, None, Ok, Err, Option, Result, sym, refl, ap, ◌∙◌, subst, add_assoc, arith, length-drop, length-take, get_or-drop, get_or-take, take-take, drop-drop}
-use Rattle.std.specs.List.{AllByRecursion as All}
+use Rattle.std.specs.List.{AllByRecursion}
 use Rattle.std.proofs.ByRecursion.{All-drop, All-from_get_or, All-take}
 use Rattle.std.proofs.lemmas.List.{drop_all, drop-take}
 use Rattle.std.proofs.lemmas.Bool.{lt-ltb}
@@ -49,7 +49,7 @@ first_slot [] h = absurd (omega arith)
 first_slot (s ∷ ss) h = refl
 
 -- slices of words below 2^64 that passed their questions
-pub slices-formed : (ws : List ℕ) → structure_fault None ws ≡ None → All (λ w. w < 2 ^ 64) ws → All WellFormed (slices_of ws)
+pub slices-formed : (ws : List ℕ) → structure_fault None ws ≡ None → AllByRecursion (λ w. w < 2 ^ 64) ws → AllByRecursion WellFormed (slices_of ws)
 slices-formed ws asked whole = All-from_get_or WellFormed (slices_of ws) (record { words = []; bytes = 0 }) (λ k l.
     let s : Span = span_of ws k in
     subst WellFormed (span-slice ws asked k l) (
@@ -73,7 +73,7 @@ module _ {S : Type 0} (f : S → List ℕ) (d : DecodedStore S) (a : ℕ) where
     pub there-few : a + n ≤ CAP
     there-few = let i = (asked-passed None (words_in f d) t.decoded.asked).0 in omega (arith, t.enough, slices-under (words_in f d) t.decoded.asked)
 
-    pub there-formed : All WellFormed (slices_within f d a n)
+    pub there-formed : AllByRecursion WellFormed (slices_within f d a n)
     there-formed = All-take WellFormed n (drop a (slices_of (words_in f d))) (All-drop WellFormed a (slices_of (words_in f d)) (slices-formed (words_in f d) t.decoded.asked t.decoded.whole))
 
     -- what is answered at one of them

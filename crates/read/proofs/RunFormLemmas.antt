@@ -3,7 +3,7 @@ use Rattle.std.proofs.Common.{◌≡◌, ℕ, suc, ◌+◌, ◌-◌, ◌*◌, �
 use native.Mathlib.Nat.{mul-div-le}
 use lib.Bits.{bit_and}
 use lib.Seq.{take-append-le}
-use Rattle.std.specs.List.{AllByRecursion as All}
+use Rattle.std.specs.List.{AllByRecursion}
 use Rattle.std.proofs.lemmas.Nat.{and_mask}
 use Rattle.std.proofs.ByRecursion.{All-get_or}
 use Rattle.std.proofs.lemmas.List.{drop-take, get_or-map}
@@ -38,7 +38,7 @@ spill-at ws i k h l =
 
 -- elements that stand from word p on
 module _ (ws : List ℕ) (p i : ℕ) where
-  pub word-stored : p + i < length ws → All (λ w. w < 2 ^ 64) ws → word_at ws (p + i) ≡ Some (element_at (unsigned 8) ws p i)
+  pub word-stored : p + i < length ws → AllByRecursion (λ w. w < 2 ^ 64) ws → word_at ws (p + i) ≡ Some (element_at (unsigned 8) ws p i)
   word-stored h u =
       let w : ℕ = get_or ws (p + i) 0 in
       let q : 8 * p + 8 * i ≡ 8 * (p + i) = omega arith in

@@ -1,6 +1,6 @@
 -- Images are decoded to the slices that they were made of, and so are admitted; what is admitted are accepted slices.
 use Rattle.std.proofs.Common.{◌≡◌, ℕ, suc, ◌+◌, ◌-◌, ◌*◌, ◌/◌, ◌%◌, ◌^◌, ◌<◌, ◌≤◌, Bool, List, [], ◌∷◌, length, drop, Some, None, Ok, Err, Option, Result, sym, refl, ap, ◌∙◌, arith, length-take, drop-drop, take_at, drop_at}
-use Rattle.std.specs.List.{AllByRecursion as All}
+use Rattle.std.specs.List.{AllByRecursion}
 use Rattle.std.proofs.lemmas.Bool.{eq-eqb, eqb-true, le-leb}
 use Rattle.area.specs.Fault.{refuse}
 use Rattle.area.specs.Slice.{Slice, WellFormed, round_up, weight, words_for}
@@ -19,7 +19,7 @@ next_start : (s : Slice) (q : ℕ) → WellFormed s → words_for (8 * q + s.byt
 next_start s q w = omega arith
 
 -- slices whose words stand from word q on
-slices-again : (ws : List ℕ) (q : ℕ) (ss : List Slice) → All WellFormed ss → drop q ws ≡ words_of ss → slices_to ws (8 * q) (ends (8 * q) ss) ≡ ss
+slices-again : (ws : List ℕ) (q : ℕ) (ss : List Slice) → AllByRecursion WellFormed ss → drop q ws ≡ words_of ss → slices_to ws (8 * q) (ends (8 * q) ss) ≡ ss
 slices-again ws q [] w h = refl
 slices-again ws q (s ∷ ss) w h =
     let a : 8 * q / 8 ≡ q = omega arith in
@@ -30,7 +30,7 @@ slices-again ws q (s ∷ ss) w h =
     rw (a, b, h, t, next_start s q w.0, r)
 
 -- ends of slices that have room in t words pass questions 6 and 7
-ends-stand : (t k q : ℕ) (ss : List Slice) → All WellFormed ss → q + weight ss ≤ t → ends_fault (8 * t) k (8 * q) (ends (8 * q) ss) ≡ None
+ends-stand : (t k q : ℕ) (ss : List Slice) → AllByRecursion WellFormed ss → q + weight ss ≤ t → ends_fault (8 * t) k (8 * q) (ends (8 * q) ss) ≡ None
 ends-stand t k q [] w h = refl
 ends-stand t k q (s ∷ ss) w h =
     let n = w.0.1 in
@@ -38,7 +38,7 @@ ends-stand t k q (s ∷ ss) w h =
     rw (le-leb (8 * q + s.bytes) (8 * t) (omega arith), le-leb (8 * q) (8 * q + s.bytes) (omega arith), next_start s q w.0, r)
 
 -- an image passes its questions, and holds its slices
-pub image-decoded : (ss : List Slice) → All WellFormed ss → length (image ss) ≤ CAP → (structure_fault (Some (length ss)) (image ss) ≡ None) × (slices_of (image ss) ≡ ss)
+pub image-decoded : (ss : List Slice) → AllByRecursion WellFormed ss → length (image ss) ≤ CAP → (structure_fault (Some (length ss)) (image ss) ≡ None) × (slices_of (image ss) ≡ ss)
 image-decoded ss w h =
     let n = length-image ss in
     let p : ℕ = 8 * (1 + length ss) in
@@ -89,7 +89,7 @@ module _ {E : Type 0} (F : Format E) where
   admitted-short ws xs h = let i = (asked-passed (Some F.slots) ws (admission-parts ws xs h).0).0 in omega arith
 
   -- what is admitted are accepted slices (those of a store's words, all below 2^64)
-  pub admitted-accepted : (ws : List ℕ) (xs : List E) → All (λ w. w < 2 ^ 64) ws → admission F ws ≡ Ok xs → Accepted F (slices_of ws) xs
+  pub admitted-accepted : (ws : List ℕ) (xs : List E) → AllByRecursion (λ w. w < 2 ^ 64) ws → admission F ws ≡ Ok xs → Accepted F (slices_of ws) xs
   admitted-accepted ws xs u h =
       let a = admission-parts ws xs h in
       let b = asked-uncounted (Some F.slots) ws a.0 in

@@ -1,6 +1,6 @@
 -- What is claimed of the image that a conversion writes, for any kind and any history.
 use Rattle.std.specs.Prelude.{◌≡◌, ℕ, ◌^◌, ◌<◌, ◌≤◌, Bool, List, length, Ok}
-use Rattle.std.specs.List.{AllByRecursion as All}
+use Rattle.std.specs.List.{AllByRecursion}
 use Rattle.column.specs.Column.{Areas}
 use Rattle.column.specs.Kind.{CAP, Format}
 use Rattle.indexed.specs.Image.{image}
@@ -25,4 +25,4 @@ module _ {E : Type 0} (fits : E → Bool) (F : Format E) where
     -- any other converted table of the kind has an equal image exactly where its history records an equal list
     pub same : (t : Areas → List E → E → Bool) (T : Table E) (ys : List E) (vs : List ℕ) → Converted t T ys vs → (vs ≡ ws → ys ≡ xs) × (ys ≡ xs → vs ≡ ws)
     -- every image that is admitted and reads as the list has at least as many words
-    pub least : (vs : List ℕ) → All (λ w. w < 2 ^ 64) vs → admission F vs ≡ Ok xs → length ws ≤ length vs
+    pub least : (vs : List ℕ) → AllByRecursion (λ w. w < 2 ^ 64) vs → admission F vs ≡ Ok xs → length ws ≤ length vs

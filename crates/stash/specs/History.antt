@@ -1,6 +1,6 @@
 -- Tables, the calls that may change one, what each is answered and leaves, and the list that a history of calls records.
 use Rattle.std.specs.Prelude.{◌≡◌, ℕ, ◌^◌, ◌<◌, Bool, cond, List, [], ◌∷◌, ◌++◌, length, take, Ok, Err, Result, ◌==◌}
-use Rattle.std.specs.List.{between, AllByRecursion as All}
+use Rattle.std.specs.List.{between, AllByRecursion}
 use Rattle.area.specs.Fault.{number_of, refuse}
 use Rattle.area.specs.declared.fault.Fault.{Fault}
 use Rattle.area.specs.declared.fault.Refusal.TheVariants.{NotTaken, NotTyped}
@@ -120,5 +120,5 @@ module _ {E : Type 0} (F : Format E) (t : Areas → List E → E → Bool) where
   -- table holds is a list that the kind writes, as every call's contract says. Its index is the list that it records.
   pub data History (fits : E → Bool) : Table E → List E → Type 0 where
     fresh : (a : Areas) → History fits (typed a []) []
-    admitted : (ws : List ℕ) (xs : List E) → All (λ w. w < 2 ^ 64) ws → admission F ws ≡ Ok xs → History fits (bytes ws) xs
+    admitted : (ws : List ℕ) (xs : List E) → AllByRecursion (λ w. w < 2 ^ 64) ws → admission F ws ≡ Ok xs → History fits (bytes ws) xs
     next : (T : Table E) (xs : List E) (k : Call E) → History fits T xs → Undisturbed T k → Held fits (holds (after T k)) → History fits (after T k) (recorded T xs k)

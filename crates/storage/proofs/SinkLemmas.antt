@@ -1,7 +1,7 @@
 -- Bytes written one after another into a list: from a place on, one more, and all.
 use Rattle.std.proofs.Common.{◌≡◌, ℕ, zero, suc, ◌+◌, ◌-◌, ◌*◌, ◌/◌, ◌%◌, ◌<◌, ◌≤◌, List, [], ◌∷◌, ◌++◌, length, get_or, take, drop, set, Ok, sym, refl, ap, ◌∙◌, subst, append_assoc, append-nil, add-zero, mul-zero, zero-add, mul-suc, arith, lit<, length-set, take_all, drop-drop}
 use native.Mathlib.Nat.{div-div-eq-div-mul}
-use Rattle.std.specs.List.{flat_map, AllByRecursion as All}
+use Rattle.std.specs.List.{flat_map, AllByRecursion}
 use Rattle.std.proofs.ByRecursion.{All-set}
 use Rattle.std.proofs.lemmas.List.{take_more, take_more_set, drop-set-lt, set-append_left, set-append_right}
 use Rattle.std.proofs.lemmas.Bool.{le-leb}
@@ -51,7 +51,7 @@ pub answer-whole : {F : Type 0} (f : F) (room : ℕ) (bs : List ℕ) → length 
 answer-whole f room bs fits = rw (le-leb _ _ fits)
 
 -- Words as bytes: one byte of one word replaced.
-set-joined : {X A : Type 0} (f : X → List A) (k : ℕ) (xs : List X) (i j : ℕ) (x e : X) (b : A) → All (λ y. length (f y) ≡ k) xs → i < length xs → j < k → f x ≡ set (f (get_or xs i e)) j b → flat_map f (set xs i x) ≡ set (flat_map f xs) (k * i + j) b
+set-joined : {X A : Type 0} (f : X → List A) (k : ℕ) (xs : List X) (i j : ℕ) (x e : X) (b : A) → AllByRecursion (λ y. length (f y) ≡ k) xs → i < length xs → j < k → f x ≡ set (f (get_or xs i e)) j b → flat_map f (set xs i x) ≡ set (flat_map f xs) (k * i + j) b
 set-joined f k [] i j x e b h l m q = absurd (omega arith)
 set-joined f k (y ∷ xs) zero j x e b h l m q =
     rw (mul-zero, zero-add, q) (sym (set-append_left (f y) (flat_map f xs) j b (omega (arith, h.0))))
@@ -78,6 +78,6 @@ bytes_of w = simp div-div-eq-div-mul
 pub byte-set : (w j b r : ℕ) (bs : List ℕ) → bs ≡ digits 256 8 w → b < 256 → r ≡ get_or (set bs j b) 0 0 + get_or (set bs j b) 1 0 * 256 + get_or (set bs j b) 2 0 * 65536 + get_or (set bs j b) 3 0 * 16777216 + get_or (set bs j b) 4 0 * 4294967296 + get_or (set bs j b) 5 0 * 1099511627776 + get_or (set bs j b) 6 0 * 281474976710656 + get_or (set bs j b) 7 0 * 72057594037927936 → digits 256 8 r ≡ set (digits 256 8 w) j b
 byte-set w j b r bs e h q =
     let l : length (set bs j b) ≡ 8 = length-set bs j b ∙ (ap length e ∙ length_digits 256 8 w) in
-    let under : All (λ d. d < 256) bs = subst (All (λ d. d < 256)) (sym e) (digits-under 256 8 w (lit< tt)) in
+    let under : AllByRecursion (λ d. d < 256) bs = subst (AllByRecursion (λ d. d < 256)) (sym e) (digits-under 256 8 w (lit< tt)) in
     let n : r ≡ number 256 (set bs j b) = q ∙ (sym (eight (set bs j b) 0 (omega arith)) ∙ ap (number 256) (take_all 8 (set bs j b) (omega arith))) in
     ap (digits 256 8) n ∙ (digits-number-all 256 (set bs j b) 8 (All-set (λ d. d < 256) bs j b h under) l ∙ ap (λ xs. set xs j b) e)

@@ -1,6 +1,6 @@
 // Stores: what a stored image is read from. A store means a list of words, and asking alters nothing.
 ghost use Rattle.std.specs.Prelude.{◌≡◌, ℕ, ◌^◌, ◌<◌, List, length, take, drop};
-ghost use Rattle.std.specs.List.{AllByRecursion as All};
+ghost use Rattle.std.specs.List.{AllByRecursion};
 ghost use Rattle.storage.specs.Store.{join_words, word_at, store_like, window_answer};
 
 use area::fault::{Fault, Refusal};
@@ -15,7 +15,7 @@ pub trait Store {
     // How many words there are.
     fn count(&self) -> usize
         ensures count { result ≡ length (words self.now) }
-        ensures whole { All (λ w. w < 2 ^ 64) (words self.now) };
+        ensures whole { AllByRecursion (λ w. w < 2 ^ 64) (words self.now) };
 
     // The word at place `i`, or none at or past the count.
     fn word(&self, i: usize) -> Option<u64>
@@ -25,7 +25,7 @@ pub trait Store {
 // How many words or bytes an area has. The elements of a slice are known to fit where it is a parameter that is passed on.
 fn word_count(cells: &[u64]) -> usize
     ensures count { result ≡ length cells.now }
-    ensures whole { All (λ w. w < 2 ^ 64) cells.now }
+    ensures whole { AllByRecursion (λ w. w < 2 ^ 64) cells.now }
 {
     if cells.is_empty() {
         return 0;
@@ -35,7 +35,7 @@ fn word_count(cells: &[u64]) -> usize
 
 pub fn byte_count(bytes: &[u8]) -> usize
     ensures count { result ≡ length bytes.now }
-    ensures whole { All (λ b. b < 256) bytes.now }
+    ensures whole { AllByRecursion (λ b. b < 256) bytes.now }
 {
     if bytes.is_empty() {
         return 0;

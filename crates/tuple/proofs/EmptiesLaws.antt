@@ -1,7 +1,7 @@
 -- The laws of empties.
 use Rattle.std.proofs.Common.{◌≡◌, ℕ, ◌≤◌, true, leb, List, [], ◌∷◌, length, take, replicate, refl, ap, arith}
 use lib.ListN.{length-replicate}
-use Rattle.std.specs.List.{AllByRecursion as All}
+use Rattle.std.specs.List.{AllByRecursion}
 use Rattle.std.proofs.lemmas.List.{take_more}
 use Rattle.std.proofs.lemmas.Bool.{le-leb, leb-true}
 use Rattle.area.specs.Slice.{Slice, ZeroPadded, weight}
@@ -31,7 +31,7 @@ least [] xs a = absurd (omega arith)
 least (s ∷ []) xs a = omega (arith, least-words 1 0 s a.fitting)
 least (s ∷ t ∷ ss) xs a = absurd (omega arith)
 
-given : (ss : List Slice) (xs : List (Unit {0})) → Accepted empties_format ss xs → Accepted empties_format (empties_format.giving ss) xs × All ZeroPadded (empties_format.giving ss)
+given : (ss : List Slice) (xs : List (Unit {0})) → Accepted empties_format ss xs → Accepted empties_format (empties_format.giving ss) xs × AllByRecursion ZeroPadded (empties_format.giving ss)
 given ss xs a =
     let s : Slice = slot ss 0 in
     let n : ℕ = word_of s 0 in

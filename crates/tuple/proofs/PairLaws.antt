@@ -1,7 +1,7 @@
 -- The laws of pairs, from those of the two sides.
 use Rattle.std.proofs.Common.{◌≡◌, ◌+◌, ◌≤◌, Bool, ◌&&◌, eqb, List, length, take, drop, None, sym, refl, ap, ◌∙◌, arith, length-append, length-drop, take-append-drop, length-take-le, take_at, drop_at}
 use lib.ListN.{length-map}
-use Rattle.std.specs.List.{AllByRecursion as All}
+use Rattle.std.specs.List.{AllByRecursion}
 use Rattle.std.proofs.ByRecursion.{All-append, All-take, All-drop}
 use Rattle.std.proofs.lemmas.Bool.{eq-eqb, eqb-true}
 use Rattle.area.specs.Slice.{Slice, WellFormed, ZeroPadded, weight}
@@ -41,7 +41,7 @@ module _ {A B : Type 0} {f : A → Bool} {g : B → Bool} {F : Format A} {G : Fo
       let p = every-parts f g xs h in
       ((p.0, rw length-map l), (p.1, rw length-map l))
 
-  shape : (xs : List (A × B)) → Held (λ p. f p.0 && g p.1) xs → (length ((pair_format F G).writing xs) ≡ F.slots + G.slots) × All WellFormed ((pair_format F G).writing xs) × All ZeroPadded ((pair_format F G).writing xs)
+  shape : (xs : List (A × B)) → Held (λ p. f p.0 && g p.1) xs → (length ((pair_format F G).writing xs) ≡ F.slots + G.slots) × AllByRecursion WellFormed ((pair_format F G).writing xs) × AllByRecursion ZeroPadded ((pair_format F G).writing xs)
   shape xs h =
       let p = held-parts xs h in
       let l = LF.shape (firsts xs) p.0 in
@@ -77,7 +77,7 @@ module _ {A B : Type 0} {f : A → Bool} {g : B → Bool} {F : Format A} {G : Fo
       rw (weight-append (F.writing (firsts xs)) (G.writing (seconds xs)))
       (omega (arith, LF.least (take F.slots ss) (firsts xs) s.0, LG.least (drop F.slots ss) (seconds xs) s.1))
 
-  given : (ss : List Slice) (xs : List (A × B)) → Accepted (pair_format F G) ss xs → Accepted (pair_format F G) ((pair_format F G).giving ss) xs × All ZeroPadded ((pair_format F G).giving ss)
+  given : (ss : List Slice) (xs : List (A × B)) → Accepted (pair_format F G) ss xs → Accepted (pair_format F G) ((pair_format F G).giving ss) xs × AllByRecursion ZeroPadded ((pair_format F G).giving ss)
   given ss xs a =
       let s = sides F G ss xs a in
       let l = LF.given (take F.slots ss) (firsts xs) s.0 in
