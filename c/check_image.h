@@ -1,4 +1,5 @@
-/* The check of a stored image, proved in Rattle. Link with libkinds.a, which `rt staticlib kinds` writes. */
+/* The check of a stored image, proved in Rattle. Link with libkinds.a, which is the out/libkinds_c.a that `rt lib` writes in
+ * crates/kinds_c. */
 #ifndef CHECK_IMAGE_H
 #define CHECK_IMAGE_H
 

@@ -1,6 +1,7 @@
 #!/usr/bin/env python3
 """Spells the names that specs/ and proofs/ declare in snake case, in every text of the repository, and renames the crate
-`bytes`, whose name a library of the kit has, to `storage`.
+`bytes`, whose name a library of the kit has, to `storage`. The library's AllByRecursion, which may not be imported under the name
+All, is called by its own.
 
 usage: tools/respell_names.py [--list]
 
@@ -80,7 +81,11 @@ def turned(text, names):
     def new(m):
         return names.get(m[0], m[0])
 
-    return re.sub(r"(?<![\w'-])[a-z][\w'-]*" + NAME_END, new, text)
+    text = re.sub(r"(?<![\w'-])[a-z][\w'-]*" + NAME_END, new, text)
+    if "AllByRecursion as All" in text:
+        text = text.replace("AllByRecursion as All", "AllByRecursion")
+        text = re.sub(r"(?<![\w'.-])All(?![\w'-])", "AllByRecursion", text)
+    return text
 
 
 def rename_crate():
@@ -108,7 +113,7 @@ def main():
     for f in texts():
         if f.endswith((".antt", ".rt")):
             words.update(re.findall(r"[a-z][\w'-]*", read(f)))
-    met = sorted((old, new) for old, new in names.items() if new in words)
+    met = sorted((old, new) for old, new in names.items() if old in words and new in words)
     for old, new in met:
         print(f"look: {old} becomes {new}, which is a name already")
     for f in texts():

@@ -27,7 +27,7 @@ pub fn convert<C: Column + FromBytes + Drop, B: Store + Drop, A: Store + Drop, W
 ) -> Result<(), ConvertFault<W::Error>>
     ensures keeps { Sound C.Index.sound C.FromBytes.slices C.FromBytes.kept C.Kind.format B.Store.words A.Store.words table.old → C.Index.sound ready → Sound C.Index.sound C.FromBytes.slices C.FromBytes.kept C.Kind.format B.Store.words A.Store.words table.new }
     ensures after { Sound C.Index.sound C.FromBytes.slices C.FromBytes.kept C.Kind.format B.Store.words A.Store.words table.old → C.Index.sound ready → table_of C.Column.areas C.Index.list B.Store.words A.Store.words table.new ≡ after C.Kind.format C.Column.takes (table_of C.Column.areas C.Index.list B.Store.words A.Store.words table.old) (typed_answer (C.Column.areas ready)) }
-    ensures claim { Sound C.Index.sound C.FromBytes.slices C.FromBytes.kept C.Kind.format B.Store.words A.Store.words table.old → C.Index.sound ready → Converts W.WriteBytes.taken W.WriteBytes.room W.WriteBytes.beyond W.WriteBytes.fault Elem-as-Value.fits C.Kind.format C.Column.takes (table_of C.Column.areas C.Index.list B.Store.words A.Store.words table.old) (C.Column.areas ready) sink.old sink.new result }
+    ensures claim { Sound C.Index.sound C.FromBytes.slices C.FromBytes.kept C.Kind.format B.Store.words A.Store.words table.old → C.Index.sound ready → Converts W.WriteBytes.taken W.WriteBytes.room W.WriteBytes.beyond W.WriteBytes.fault C.Elem.Value.fits C.Kind.format C.Column.takes (table_of C.Column.areas C.Index.list B.Store.words A.Store.words table.old) (C.Column.areas ready) sink.old sink.new result }
 {
     C::lawful();
     if let Err(fault) = table.make_typed(ready) {

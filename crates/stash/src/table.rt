@@ -21,7 +21,7 @@ use storage::write::{Full, WriteBytes};
 impl<C: Column + FromBytes + Drop, B: Store + Drop, A: Store + Drop> Stash<C, B, A> {
     // Does nothing: its clause is what holds of a sound table at all times.
     pub fn upholds(&self)
-        ensures { Sound C.Index.sound C.FromBytes.slices C.FromBytes.kept C.Kind.format B.Store.words A.Store.words self.now → Held Elem-as-Value.fits (holds C.Kind.format C.Column.takes (table_of C.Column.areas C.Index.list B.Store.words A.Store.words self.now)) }
+        ensures { Sound C.Index.sound C.FromBytes.slices C.FromBytes.kept C.Kind.format B.Store.words A.Store.words self.now → Held C.Elem.Value.fits (holds C.Kind.format C.Column.takes (table_of C.Column.areas C.Index.list B.Store.words A.Store.words self.now)) }
     {
         C::lawful();
         if let Stash::Typed(column) = self {
