@@ -49,6 +49,6 @@ module _ {W F : Type 0} (taken : W → List ℕ) (room : W → ℕ) (beyond : W 
   -- An image of at most CAP words is given piece by piece; any other is refused with 15 and nothing is given. Where all
   -- of it was taken and the slices are zero padded, the sink has the bytes of the image's words.
   pub record Written (ss : List Slice) (s t : W) (r : Result (Unit {0}) (WriteFault F)) : Type 0 where
-    pub short : length (image ss) ≤ CAP → Given (pieces ss) s t r
+    pub short : length (image ss) ≤ CAP → (r ≡ give_answer (pieces ss) s t) × Gave (pieces ss) s t
     pub whole : r ≡ Ok tt → AllByRecursion ZeroPadded ss → taken t ≡ taken s ++ spill (image ss)
     pub long : CAP < length (image ss) → (r ≡ Err (TooLong (refuse ImageTooLong 0))) × (t ≡ s)

@@ -1,5 +1,5 @@
 // Sinks: where images are written to, piece by piece. A piece is taken whole or not at all.
-ghost use Rattle.std.specs.Prelude.{◌≡◌, ℕ, ◌+◌, ◌-◌, ◌*◌, ◌%◌, ◌<◌, List, length, take, drop, slice_set};
+ghost use Rattle.std.specs.Prelude.{◌≡◌, ℕ, ◌+◌, ◌-◌, ◌*◌, ◌%◌, ◌<◌, min, List, length, take, drop, slice_set};
 ghost use Rattle.area.specs.Digits.{digits};
 ghost use Rattle.area.specs.Slice.{spill};
 ghost use Rattle.storage.specs.Sink.{counting, leaving, piece_answer, quota_fault, quota_room, room_after, taking};
@@ -180,7 +180,7 @@ impl<W: WriteBytes> WriteBytes for Quota<W> {
 
     ghost taken = { λ q. W.WriteBytes.taken q.sink };
 
-    ghost room = { λ q. quota_room W.WriteBytes.room q };
+    ghost room = { λ q. min (q.limit - q.count) (W.WriteBytes.room q.sink) };
 
     ghost beyond = { λ q. W.WriteBytes.beyond q.sink };
 
