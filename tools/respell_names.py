@@ -32,7 +32,7 @@ BY_HAND = {
     "sliceWord": "word_in_slice",
     "slicesIn": "slices_within",
 }
-# Names that a source gives to what it imports.
+# Names that a source gives to what it imports, and others by hand.
 GIVEN = {
     "areaOf": "area_of",
     "noArea": "no_area",
@@ -40,6 +40,13 @@ GIVEN = {
     "clearCall": "clear_call",
     "appendCall": "append_call",
     "isErr": "is_refusal",
+    # lemmas that would differ from what they are about by a dash alone
+    "least-words": "least_words_lem",
+    "is-next": "is_next_lem",
+    "bounds-at": "bounds_at_lem",
+    "encode-answer": "encode_answer_lem",
+    "records-after": "records_after_lem",
+    "get_d_part": "get_or-part",
 }
 DECLARED = re.compile(r"(?m)^ *(?:(?:pub|abbrev|unfoldable|data|record) )*([^\s(){}.;,:]+)(?: [({][^\n]*?[)}])* :(?= |$)")
 CAMEL = re.compile(r"(?<=[a-z0-9])[A-Z]")

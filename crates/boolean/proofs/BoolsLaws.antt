@@ -11,7 +11,7 @@ use Rattle.area.proofs.DigitLemmas.{digits-number-all, number_digits, length_dig
 use Rattle.area.proofs.SliceLemmas.{of_words-formed, of_words-padded, weight-append}
 use Rattle.column.specs.Kind.{first_refused, Format, Laws, Held, Accepted, L, every, reads, slot, word_of, least_words, reading_within}
 use Rattle.boolean.specs.Bools.{bit, from_bits, to_bits, groups, rest, held_bits, bools_format}
-use Rattle.column.specs.KindLemmas.{least-words, in_bounds, after-reads, slot-formed}
+use Rattle.column.specs.KindLemmas.{least_words_lem, in_bounds, after-reads, slot-formed}
 use Rattle.column.proofs.WordLemmas.{is_word, all_words, every-words}
 
 -- bits as digits, and back
@@ -170,7 +170,7 @@ module _ (W : Format ℕ) where
       record {
         ws = r.0;
         heavy = omega (arith, ap weight cut, weight-append (take n ss) (s ∷ []));
-        least = least-words 2 n s f.1;
+        least = least_words_lem 2 n s f.1;
         below = record { count = length-take-le n ss (omega (arith, a.count)); formed = All-take WellFormed n ss a.formed; fitting = f.0; reading = r.1 };
         few = leb-true (word_of s 1) 63 t.0;
         short = leb-true (64 * length r.0 + word_of s 1) L t.1;

@@ -11,7 +11,7 @@ use Rattle.area.specs.declared.fault.Fault.{Fault}
 use Rattle.area.specs.declared.fault.Refusal.TheVariants.{ImageTooLong, SliceContent}
 use Rattle.column.specs.Column.{element, slice_length, word_in_slice}
 use Rattle.column.specs.Kind.{CAP, Format, L, Laws, every, reading_within, least_words, slot, word_of}
-use Rattle.column.specs.KindLemmas.{least-words}
+use Rattle.column.specs.KindLemmas.{least_words_lem}
 use Rattle.column.proofs.WordLemmas.{is_word}
 use Rattle.decode.specs.Decode.{Inside, slice_in}
 use Rattle.decode.specs.declared.decoded.DecodedStore.{DecodedStore}
@@ -139,7 +139,7 @@ module _ {S F : Type 0} (f : S → List ℕ) (d : DecodedStore S) (slices : F �
   none-words = ap W.sized (sym front) ∙ passed-both.0
 
   pub two-words : 2 ≤ length (slot ss W.slots).words
-  two-words = least-words 2 W.slots (slot ss W.slots) passed-both.1
+  two-words = least_words_lem 2 W.slots (slot ss W.slots) passed-both.1
 
   pub made-words : (x : F) → Words (Ok x) → Made f d slices kept W a there-words x
   made-words x h = made f d slices kept W a there-words none-words x (h there-words none-words)

@@ -54,10 +54,10 @@ push-taken true xs ys x n u h e l = ap Accepted (sym (l ∙ ap length e ∙ leng
 push-taken false xs ys x n u h e l = let z : ◌≡◌ {A = ℕ} 0 1 = cc in absurd (omega arith)
 
 -- the bytes that belong to the record before
-records-after : (n : ℕ) (bs : List ℕ) → records_after n bs ≡ records (drop n bs)
-records-after zero bs = refl
-records-after (suc n) [] = refl
-records-after (suc n) (k ∷ bs) = records-after n bs
+records_after_lem : (n : ℕ) (bs : List ℕ) → records_after n bs ≡ records (drop n bs)
+records_after_lem zero bs = refl
+records_after_lem (suc n) [] = refl
+records_after_lem (suc n) (k ∷ bs) = records_after_lem n bs
 
 size-suc : (r : Record Block) (k : ℕ) (bs : List ℕ) → drop (size_of r - 1) bs ≡ drop (size_of r) (k ∷ bs)
 size-suc (Push x) k bs = refl
@@ -74,7 +74,7 @@ pub records-begin : (bs : List ℕ) (r : Record Block) → record_of bs ≡ Some
 records-begin [] r h = let z : ◌≡◌ {A = ℕ} 0 1 = cc in absurd (omega arith)
 records-begin (k ∷ bs) r h =
     subst (λ (o : Option (Record Block)). elim o [ Some q ↦ Some q ∷ records_after (size_of q - 1) bs | None ↦ None ∷ [] ] ≡ Some r ∷ records_after (size_of r - 1) bs) (sym h) refl
-    ∙ ap (λ rs. Some r ∷ rs) (records-after (size_of r - 1) bs ∙ ap records (size-suc r k bs))
+    ∙ ap (λ rs. Some r ∷ rs) (records_after_lem (size_of r - 1) bs ∙ ap records (size-suc r k bs))
 
 pub records-stop : (bs : List ℕ) → record_of bs ≡ None → 0 < length bs → records bs ≡ None ∷ []
 records-stop [] h l = absurd (omega arith)

@@ -26,8 +26,8 @@ pub passed : (b : Bool) (k : ℕ) → cond b None (Some k) ≡ None → b ≡ tr
 passed true k h = refl
 passed false k h = cc
 
-pub least-words : (n k : ℕ) (s : Slice) → least_words n k s ≡ None → n ≤ length s.words
-least-words n k s h = leb-true n (length s.words) (passed _ k h)
+pub least_words_lem : (n k : ℕ) (s : Slice) → least_words n k s ≡ None → n ≤ length s.words
+least_words_lem n k s h = leb-true n (length s.words) (passed _ k h)
 
 pub neither : (n : ℕ) (p q : Option ℕ) → first_refused p (further n q) ≡ None → (p ≡ None) × (q ≡ None)
 neither n None None h = (refl, refl)

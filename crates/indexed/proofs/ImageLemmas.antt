@@ -137,8 +137,8 @@ slices-written ss d at k l = rw (take_all k ss l, length-words_of ss)
 pub words-ok : (ss : List Slice) (n : ℕ) → Ok n ≡ word_length_answer ss → (n ≡ length (image ss)) × (length (image ss) ≤ CAP)
 words-ok ss n h = grind (arith, nat_tests)
 
-pub encode-answer : (ss : List Slice) (area : List ℕ) (place n : ℕ) → Ok n ≡ word_length_answer ss → place + n ≤ length area → Ok n ≡ encode_answer ss area place
-encode-answer ss area place n h l = grind (arith, nat_tests)
+pub encode_answer_lem : (ss : List Slice) (area : List ℕ) (place n : ℕ) → Ok n ≡ word_length_answer ss → place + n ≤ length area → Ok n ≡ encode_answer ss area place
+encode_answer_lem ss area place n h l = grind (arith, nat_tests)
 
 pub encode-after : (ss : List Slice) (area : List ℕ) (place n b : ℕ) (ys : List ℕ) → Ok n ≡ word_length_answer ss → place + n ≤ length area → n ≡ b → ys ≡ image ss → put_mid place b area ys ≡ encoded ss area place
 encode-after ss area place n b ys h l e y =

@@ -10,7 +10,7 @@ use Rattle.column.specs.Column.{element, slice_length, word_in_slice}
 use Rattle.column.specs.Kind.{L, Reading, after, first_refused, further, reading_within, least_words, slot, word_of}
 use Rattle.column.specs.Run.{word_run}
 use Rattle.column.proofs.ColumnLemmas.{element-found}
-use Rattle.column.specs.KindLemmas.{least-words, neither}
+use Rattle.column.specs.KindLemmas.{least_words_lem, neither}
 use Rattle.column.proofs.RunLemmas.{past-from-err}
 use Rattle.column.proofs.SliceAt.{slice_length-right, word_in_slice-right}
 use Rattle.decode.specs.Decode.{Inside, slice_in, span_answer, slices_of}
@@ -122,7 +122,7 @@ module _ {S : Type 0} (f : S → List ℕ) (d : DecodedStore S) (a k : ℕ) (p :
     module _ (s : Span) (q : Ok s ≡ span_answer (words_in f d) a) where
       pub head-there : (i : ℕ) (e : Fault) → i < 2 → Err e ≡ element (slice_in (words_in f d) s).words i → ⊥
       head-there i e l r =
-          omega (arith, past-from-err (slice_in (words_in f d) s).words i e r, least-words 2 0 (slot pair 0) sizes.0, place-words s q, length-span (words_in f d) s (place_in s q).0)
+          omega (arith, past-from-err (slice_in (words_in f d) s).words i e r, least_words_lem 2 0 (slot pair 0) sizes.0, place-words s q, length-span (words_in f d) s (place_in s q).0)
 
     module _ (b : Span) (r : form_answer run_slices run_kept (words_in f d) (slices_within f d k 1) k (word_run.reading (slices_within f d k 1)) (Ok b)) where
       pub bounds-form : Stands run_slices run_kept word_run b (words_in f d)

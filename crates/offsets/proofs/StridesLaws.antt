@@ -10,7 +10,7 @@ use Rattle.area.proofs.SliceLemmas.{of_words-formed, of_words-padded}
 use Rattle.column.specs.Kind.{Format, Laws, Held, Accepted, L, every, reads, slot, word_of, least_words, reading_within, further}
 use Rattle.offsets.specs.Head.{multiples}
 use Rattle.offsets.specs.Strides.{stride, goes_on, front, bounds, stands_for, strides_format}
-use Rattle.column.specs.KindLemmas.{least-words, neither, in_bounds, after-reads, slot-formed}
+use Rattle.column.specs.KindLemmas.{least_words_lem, neither, in_bounds, after-reads, slot-formed}
 use Rattle.column.proofs.WordLemmas.{is_word, all_words, every-words}
 
 pub length-multiples : (s n : ℕ) → length (multiples s n) ≡ n
@@ -171,7 +171,7 @@ module _ (B : Format ℕ) where
       let t = and_parts (ltb (word_of h 0 * word_of h 1) (2 ^ 64)) (leb (word_of h 1 + length r.0) L) b.0 in
       record {
         bs = r.0;
-        least = least-words 2 0 h f.0;
+        least = least_words_lem 2 0 h f.0;
         below = record { count = omega (arith, a.count, length-drop 1 ss); formed = All-drop WellFormed 1 ss a.formed; fitting = f.1; reading = r.1 };
         fits = ltb-true (word_of h 0 * word_of h 1) (2 ^ 64) t.0;
         short = leb-true (word_of h 1 + length r.0) L t.1;

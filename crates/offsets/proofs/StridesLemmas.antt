@@ -79,18 +79,18 @@ stands-sound c xs t r h =
     }
 
 -- whether a number is the next multiple
-is-next : (b : Bool) (m x : ℕ) → elim (cond b (Some m) None) [ Some k ↦ eqb k x | None ↦ false ] ≡ (b && eqb m x)
-is-next true m x = refl
-is-next false m x = refl
+is_next_lem : (b : Bool) (m x : ℕ) → elim (cond b (Some m) None) [ Some k ↦ eqb k x | None ↦ false ] ≡ (b && eqb m x)
+is_next_lem true m x = refl
+is_next_lem false m x = refl
 
 next_multiple : (s n x : ℕ) → is_next s n x ≡ true → x ≡ s * (n + 1)
 next_multiple s n x h =
-    let e = is-next (ltb (n + 1) (2 ^ 64) && ltb (s * (n + 1)) (2 ^ 64)) (s * (n + 1)) x in
+    let e = is_next_lem (ltb (n + 1) (2 ^ 64) && ltb (s * (n + 1)) (2 ^ 64)) (s * (n + 1)) x in
     sym (eqb-true (s * (n + 1)) x (and_parts _ (eqb (s * (n + 1)) x) (sym e ∙ h)).1)
 
 no-multiple : (s n x : ℕ) → is_next s n x ≡ false → n + 1 < 2 ^ 64 → x < 2 ^ 64 → x ≡ s * (n + 1) → ⊥
 no-multiple s n x h l f e =
-    let t = is-next (ltb (n + 1) (2 ^ 64) && ltb (s * (n + 1)) (2 ^ 64)) (s * (n + 1)) x in
+    let t = is_next_lem (ltb (n + 1) (2 ^ 64) && ltb (s * (n + 1)) (2 ^ 64)) (s * (n + 1)) x in
     let fits = and_from (ltb (n + 1) (2 ^ 64)) (ltb (s * (n + 1)) (2 ^ 64)) (lt-ltb (n + 1) (2 ^ 64) l) (lt-ltb (s * (n + 1)) (2 ^ 64) (omega arith)) in
     both_ways (is_next s n x) h (t ∙ and_from _ (eqb (s * (n + 1)) x) fits (eq-eqb (s * (n + 1)) x (sym e)))
 
@@ -234,8 +234,8 @@ element-before xs i x e z =
     let l = element-within xs i x e in
     element-at xs (i - 1) 0 (omega arith) ∙ ap Ok (sym (get_or-before xs i z))
 
-pub bounds-at : (xs : List ℕ) (i x y : ℕ) → Ok x ≡ element xs i → (i ≡ 0 → ⊥) → Ok y ≡ element xs (i - 1) → ◌≡◌ {A = Result (ℕ × ℕ) Fault} (Ok (y, x)) (bounds_at xs i)
-bounds-at xs i x y e z d =
+pub bounds_at_lem : (xs : List ℕ) (i x y : ℕ) → Ok x ≡ element xs i → (i ≡ 0 → ⊥) → Ok y ≡ element xs (i - 1) → ◌≡◌ {A = Result (ℕ × ℕ) Fault} (Ok (y, x)) (bounds_at xs i)
+bounds_at_lem xs i x y e z d =
     let b = element-before xs i x e z in
     let same : y ≡ get_or (0 ∷ xs) i 0 = cc in
     subst (λ r. ◌≡◌ {A = Result (ℕ × ℕ) Fault} (Ok (y, x)) (elim r [ Ok x ↦ Ok (get_or (0 ∷ xs) i 0, x) | Err f ↦ Err f ])) e (ap (λ n. Ok (n, x)) same)

@@ -37,8 +37,8 @@ module _ {X : Type 0} (ss : List X) (a : ℕ) where
   pub drop-part : (m n : ℕ) → drop m (take (m + n) (drop a ss)) ≡ take n (drop (a + m) ss)
   drop-part m n = drop-take m n (drop a ss) ∙ ap (take n) (drop-drop m a ss)
 
-  pub get_d_part : (n j : ℕ) (x : X) → j < n → get_or (take n (drop a ss)) j x ≡ get_or ss (a + j) x
-  get_d_part n j x h = get_or-take n (drop a ss) j x h ∙ get_or-drop a ss j x
+  pub get_or-part : (n j : ℕ) (x : X) → j < n → get_or (take n (drop a ss)) j x ≡ get_or ss (a + j) x
+  get_or-part n j x h = get_or-take n (drop a ss) j x h ∙ get_or-drop a ss j x
 
   pub length_part : (n : ℕ) → a + n ≤ length ss → length (take n (drop a ss)) ≡ n
   length_part n h = rw (length-take, length-drop) (omega arith)
@@ -88,7 +88,7 @@ module _ {S : Type 0} (f : S → List ℕ) (d : DecodedStore S) (a : ℕ) where
           let q : s ≡ span_of ws k = cc (e ∙ span-here) in
           rw q (
             span-inside ws t.decoded.asked k l,
-            span-slice ws t.decoded.asked k l ∙ ap (slot (slices_of ws)) p ∙ sym (get_d_part (slices_of ws) a n j (record { words = []; bytes = 0 }) h),
+            span-slice ws t.decoded.asked k l ∙ ap (slot (slices_of ws)) p ∙ sym (get_or-part (slices_of ws) a n j (record { words = []; bytes = 0 }) h),
           )
 
       pub not-refused : (e : Fault) → Err e ≡ span_answer (words_in f d) k → ⊥

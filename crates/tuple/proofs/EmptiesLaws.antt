@@ -9,7 +9,7 @@ use Rattle.area.proofs.SliceLemmas.{of_words-formed, of_words-padded}
 use Rattle.tuple.specs.Empties.{empties_format}
 use Rattle.column.specs.Kind.{Accepted, Held, L, Laws, reads, slot, word_of}
 use Rattle.tuple.proofs.EmptiesLemmas.{every-empty}
-use Rattle.column.specs.KindLemmas.{in_bounds, least-words}
+use Rattle.column.specs.KindLemmas.{in_bounds, least_words_lem}
 
 -- empties differ in their count alone
 replicate-unit : (xs : List (Unit {0})) → replicate (length xs) tt ≡ xs
@@ -28,7 +28,7 @@ sound (s ∷ t ∷ ss) xs a = absurd (omega arith)
 
 least : (ss : List Slice) (xs : List (Unit {0})) → Accepted empties_format ss xs → weight (empties_format.writing xs) ≤ weight ss
 least [] xs a = absurd (omega arith)
-least (s ∷ []) xs a = omega (arith, least-words 1 0 s a.fitting)
+least (s ∷ []) xs a = omega (arith, least_words_lem 1 0 s a.fitting)
 least (s ∷ t ∷ ss) xs a = absurd (omega arith)
 
 given : (ss : List Slice) (xs : List (Unit {0})) → Accepted empties_format ss xs → Accepted empties_format (empties_format.giving ss) xs × AllByRecursion ZeroPadded (empties_format.giving ss)
@@ -36,7 +36,7 @@ given ss xs a =
     let s : Slice = slot ss 0 in
     let n : ℕ = word_of s 0 in
     let r = in_bounds (leb n L) (replicate n tt) xs a.reading in
-    let one : take 1 s.words ≡ n ∷ [] = take_more s.words 0 0 (least-words 1 0 s a.fitting) in
+    let one : take 1 s.words ≡ n ∷ [] = take_more s.words 0 0 (least_words_lem 1 0 s a.fitting) in
     rw one (
       record { count = refl; formed = (of_words-formed (n ∷ []) (omega (arith, leb-true n L r.0), tt), tt); fitting = refl; reading = a.reading },
       (of_words-padded (n ∷ []), tt),

@@ -1,5 +1,5 @@
 use Rattle.std.proofs.Common.{arith}
-use Rattle.indexed.proofs.ImageLemmas.{image-left, encode-answer, encode-after, err-not-ok}
+use Rattle.indexed.proofs.ImageLemmas.{image-left, encode_answer_lem, encode-after, err-not-ok}
 use Rattle.indexed.proofs.encode.Given as given
 use Rattle.indexed.proofs.encode.Goals as goal
 
@@ -15,7 +15,7 @@ returns-in_err-write_slices g c = record { answer = λ s. absurd (never g c s); 
 pub returns : goal.returns
 returns g c =
     record {
-      answer = λ s. encode-answer (g.A.AsBytes.slices c.args.item.now) c.args.area.now c.args.place _ (c.in_ok-words.ensures s) (omega arith);
+      answer = λ s. encode_answer_lem (g.A.AsBytes.slices c.args.item.now) c.args.area.now c.args.place _ (c.in_ok-words.ensures s) (omega arith);
       after = λ s.
           encode-after (g.A.AsBytes.slices c.args.item.now) c.args.area.now c.args.place c.in_ok-words.words _ c.write_slices.new.part (c.in_ok-words.ensures s) (omega arith) (omega arith)
           (image-left (g.A.AsBytes.slices c.args.item.now) c.args.area.now c.args.place c.in_ok-words.words c.slices.result c.saturating_add.result c.write_index.new.part c.write_slices.new.part

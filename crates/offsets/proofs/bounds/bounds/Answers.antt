@@ -1,4 +1,4 @@
-use Rattle.offsets.proofs.StridesLemmas.{bounds-at, never-refused}
+use Rattle.offsets.proofs.StridesLemmas.{bounds_at_lem, never-refused}
 use Rattle.offsets.proofs.bounds.bounds.Goals as goal
 
 pub returns-in_err-lower : goal.returns-in_err-lower
@@ -7,4 +7,4 @@ returns-in_err-lower g c h =
 
 pub returns : goal.returns
 returns g c h =
-    bounds-at (g.R.Index.list c.args.ends.now) c.args.i c.in_ok-upper.upper c.in_ok-lower.lower (c.in_ok-upper.ensures h) c.if-i-eq0.false (c.in_ok-lower.ensures h)
+    bounds_at_lem (g.R.Index.list c.args.ends.now) c.args.i c.in_ok-upper.upper c.in_ok-lower.lower (c.in_ok-upper.ensures h) c.if-i-eq0.false (c.in_ok-lower.ensures h)

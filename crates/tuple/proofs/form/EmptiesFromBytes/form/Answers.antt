@@ -1,7 +1,7 @@
 -- The count is the word at the slice's place.
 use Rattle.std.proofs.Common.{[], ◌∷◌, sym, ap, ◌∙◌, arith}
 use Rattle.column.specs.Kind.{slot, word_of}
-use Rattle.column.specs.KindLemmas.{least-words}
+use Rattle.column.specs.KindLemmas.{least_words_lem}
 use Rattle.decode.specs.Decode.{slice_in}
 use Rattle.read.specs.Form.{slices_within}
 use Rattle.read.proofs.PlaceLemmas.{bounds-err, bounds_ok, no_place, no_word, place, slices-last, word-there}
@@ -17,7 +17,7 @@ returns-in_err-count g c t z =
     let f = g.S.Store.words in
     let d = c.args.image.now in
     let p = place f d c.args.at 1 t 0 c.args.at (omega arith) (omega arith) c.in_ok-place.place c.in_ok-place.ensures.answer in
-    absurd (no_word f d c.args.at 1 t 0 c.in_ok-place.place p (f c.store.result.now) (ap f c.store.ensures) 0 c.in_err-count.field-0.0 c.in_err-count.ensures (omega (arith, least-words 1 0 (slot (slices_within f d c.args.at 1) 0) z)))
+    absurd (no_word f d c.args.at 1 t 0 c.in_ok-place.place p (f c.store.result.now) (ap f c.store.ensures) 0 c.in_err-count.field-0.0 c.in_err-count.ensures (omega (arith, least_words_lem 1 0 (slot (slices_within f d c.args.at 1) 0) z)))
 
 pub returns-then-count : goal.returns-then-count
 returns-then-count g c t z =
