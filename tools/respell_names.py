@@ -1,7 +1,8 @@
 #!/usr/bin/env python3
 """Spells the names that specs/ and proofs/ declare in snake case, in every text of the repository, and renames the crate
 `bytes`, whose name a library of the kit has, to `storage`. The library's AllByRecursion, which may not be imported under the name
-All, is called by its own.
+All, is called by its own. In a lemma's name a dash stays between two names alone, and else becomes an underscore, as lemma_names.tsv
+beside this file lists.
 
 usage: tools/respell_names.py [--list]
 
@@ -10,6 +11,7 @@ and names of Rust sources are not touched. It rewrites the .antt, .rt, .edit and
 run changes nothing. --list prints the table and writes nothing.
 """
 
+import functools
 import os
 import re
 import subprocess
@@ -51,6 +53,7 @@ GIVEN = {
 DECLARED = re.compile(r"(?m)^ *(?:(?:pub|abbrev|unfoldable|data|record) )*([^\s(){}.;,:]+)(?: [({][^\n]*?[)}])* :(?= |$)")
 CAMEL = re.compile(r"(?<=[a-z0-9])[A-Z]")
 NAME_END = r"(?![\w'-])"
+LEMMAS = os.path.join(os.path.dirname(os.path.realpath(__file__)), "lemma_names.tsv")
 
 
 def texts():
@@ -88,11 +91,18 @@ def turned(text, names):
     def new(m):
         return names.get(m[0], m[0])
 
-    text = re.sub(r"(?<![\w'-])[a-z][\w'-]*" + NAME_END, new, text)
+    text = re.sub(r"(?<![\w'-])[A-Za-z][\w'-]*" + NAME_END, new, text)
+    # a dash stays only between two names
+    text = re.sub(r"(?<![\w'-])[A-Za-z][\w'-]*" + NAME_END, lambda m: lemmas().get(m[0], m[0]), text)
     if "AllByRecursion as All" in text:
         text = text.replace("AllByRecursion as All", "AllByRecursion")
         text = re.sub(r"(?<![\w'.-])All(?![\w'-])", "AllByRecursion", text)
     return text
+
+
+@functools.lru_cache(maxsize=None)
+def lemmas():
+    return dict(line.split("\t") for line in read(LEMMAS).splitlines())
 
 
 def rename_crate():

@@ -14,8 +14,8 @@ use Rattle.area.specs.Digits.{number, digits, chunks}
 low_digit : (b d w : ℕ) → d < b → (d + b * w) % b ≡ d
 low_digit b d w h = add-mul-mod_self_left d b w ∙ mod-eq_of_lt h
 
-high-digits : (b d w : ℕ) → d < b → (d + b * w) / b ≡ w
-high-digits b d w h = let p : 0 < b = omega arith in add-mul-div_left d w p ∙ rw (div-eq_of_lt h) (zero-add w)
+high_digits : (b d w : ℕ) → d < b → (d + b * w) / b ≡ w
+high_digits b d w h = let p : 0 < b = omega arith in add-mul-div_left d w p ∙ rw (div-eq_of_lt h) (zero-add w)
 
 digits-zero : (b n : ℕ) → digits b n 0 ≡ replicate n 0
 digits-zero b zero = refl
@@ -25,39 +25,39 @@ pub digits_number : (b n : ℕ) (ds : List ℕ) → AllByRecursion (λ d. d < b)
 digits_number b n [] h l = rw sub-zero (digits-zero b n)
 digits_number b zero (d ∷ ds) h l = absurd (omega arith)
 digits_number b (suc n) (d ∷ ds) h l =
-    rw (low_digit b d (number b ds) h.0, high-digits b d (number b ds) h.0, suc-sub-suc) (ap (λ es. d ∷ es) (digits_number b n ds h.1 (omega arith)))
+    rw (low_digit b d (number b ds) h.0, high_digits b d (number b ds) h.0, suc-sub-suc) (ap (λ es. d ∷ es) (digits_number b n ds h.1 (omega arith)))
 
-pub digits-number-all : (b : ℕ) (ds : List ℕ) (n : ℕ) → AllByRecursion (λ d. d < b) ds → length ds ≡ n → digits b n (number b ds) ≡ ds
-digits-number-all b ds n h l =
+pub digits-number_all : (b : ℕ) (ds : List ℕ) (n : ℕ) → AllByRecursion (λ d. d < b) ds → length ds ≡ n → digits b n (number b ds) ≡ ds
+digits-number_all b ds n h l =
     let z : n - length ds ≡ 0 = omega arith in
     digits_number b n ds h (omega arith) ∙ rw z (append-nil ds)
 
 -- the number of the n lowest digits, and the digits of what has no more
-pub number-digits-low : (b n w : ℕ) → 0 < b → number b (digits b n w) ≡ w % b ^ n
-number-digits-low b zero w p = rw (pow-zero, mod-one)
-number-digits-low b (suc n) w p =
+pub number-digits_low : (b n w : ℕ) → 0 < b → number b (digits b n w) ≡ w % b ^ n
+number-digits_low b zero w p = rw (pow-zero, mod-one)
+number-digits_low b (suc n) w p =
     let q : 0 < b ^ n = omega (arith, one-le-pow n b p) in
-    rw (number-digits-low b n (w / b) p, pow-suc, mod-mul w q p) (omega (arith, mul_comm b (w / b % b ^ n)))
+    rw (number-digits_low b n (w / b) p, pow-suc, mod-mul w q p) (omega (arith, mul_comm b (w / b % b ^ n)))
 
 pub number_digits : (b n w : ℕ) → 0 < b → w < b ^ n → number b (digits b n w) ≡ w
-number_digits b n w p h = number-digits-low b n w p ∙ mod-eq_of_lt h
+number_digits b n w p h = number-digits_low b n w p ∙ mod-eq_of_lt h
 
 pub take-digits : (b k n w : ℕ) → k ≤ n → take k (digits b n w) ≡ digits b k w
 take-digits b zero n w h = refl
 take-digits b (suc k) zero w h = absurd (omega arith)
 take-digits b (suc k) (suc n) w h = ap (λ ds. w % b ∷ ds) (take-digits b k n (w / b) (omega arith))
 
-pub bytes-of-bits : (j : ℕ) → 2 ^ (8 * j) ≡ 256 ^ j
-bytes-of-bits zero = refl
-bytes-of-bits (suc j) = rw (mul-suc 8 j, pow-add 2 (8 * j) 8, pow-suc 256 j, bytes-of-bits j)
+pub bytes_of_bits : (j : ℕ) → 2 ^ (8 * j) ≡ 256 ^ j
+bytes_of_bits zero = refl
+bytes_of_bits (suc j) = rw (mul-suc 8 j, pow-add 2 (8 * j) 8, pow-suc 256 j, bytes_of_bits j)
 
 pub length_digits : (b n w : ℕ) → length (digits b n w) ≡ n
 length_digits b zero w = refl
 length_digits b (suc n) w = ap suc (length_digits b n (w / b))
 
-pub digits-under : (b n w : ℕ) → 0 < b → AllByRecursion (λ d. d < b) (digits b n w)
-digits-under b zero w p = tt
-digits-under b (suc n) w p = (mod-lt w p, digits-under b n (w / b) p)
+pub digits_under : (b n w : ℕ) → 0 < b → AllByRecursion (λ d. d < b) (digits b n w)
+digits_under b zero w p = tt
+digits_under b (suc n) w p = (mod-lt w p, digits_under b n (w / b) p)
 
 pub number_lt : (b : ℕ) (ds : List ℕ) → AllByRecursion (λ d. d < b) ds → number b ds < b ^ length ds
 number_lt b [] h = omega (arith, pow-zero b)
@@ -86,57 +86,57 @@ module _ {X : Type 0} where
   get_or-chunks k (suc n) xs zero h = rw mul-zero
   get_or-chunks k (suc n) xs (suc i) h = get_or-chunks k n (drop k xs) i (omega arith) ∙ rw (drop-drop, mul-suc, add_comm k (k * i))
 
-  pub all-chunks : (k n : ℕ) (xs : List X) → k * n ≤ length xs → AllByRecursion (λ c. length c ≡ k) (chunks k n xs)
-  all-chunks k zero xs h = tt
-  all-chunks k (suc n) xs h =
+  pub all_chunks : (k n : ℕ) (xs : List X) → k * n ≤ length xs → AllByRecursion (λ c. length c ≡ k) (chunks k n xs)
+  all_chunks k zero xs h = tt
+  all_chunks k (suc n) xs h =
       let l : k * n + k ≤ length xs = rw mul-suc at h in
-      (length-take-le k xs (omega arith), all-chunks k n (drop k xs) (simp length-drop (omega arith)))
+      (length-take-le k xs (omega arith), all_chunks k n (drop k xs) (simp length-drop (omega arith)))
 
-  pub all-in-chunks : (P : X → Type 0) (k n : ℕ) (xs : List X) → AllByRecursion P xs → AllByRecursion (AllByRecursion P) (chunks k n xs)
-  all-in-chunks P k zero xs h = tt
-  all-in-chunks P k (suc n) xs h = (All-take P k xs h, all-in-chunks P k n (drop k xs) (All-drop P k xs h))
+  pub all_in_chunks : (P : X → Type 0) (k n : ℕ) (xs : List X) → AllByRecursion P xs → AllByRecursion (AllByRecursion P) (chunks k n xs)
+  all_in_chunks P k zero xs h = tt
+  all_in_chunks P k (suc n) xs h = (All-take P k xs h, all_in_chunks P k n (drop k xs) (All-drop P k xs h))
 
-  pub joined-chunks : (k n : ℕ) (xs : List X) → flat_map (λ c. c) (chunks k n xs) ≡ take (k * n) xs
-  joined-chunks k zero xs = rw mul-zero
-  joined-chunks k (suc n) xs = rw (mul-suc, add_comm, take-add, joined-chunks k n (drop k xs))
+  pub joined_chunks : (k n : ℕ) (xs : List X) → flat_map (λ c. c) (chunks k n xs) ≡ take (k * n) xs
+  joined_chunks k zero xs = rw mul-zero
+  joined_chunks k (suc n) xs = rw (mul-suc, add_comm, take-add, joined_chunks k n (drop k xs))
 
 module _ {X A : Type 0} (f : X → List A) where
-  pub joined-append : (xs ys : List X) → flat_map f (xs ++ ys) ≡ flat_map f xs ++ flat_map f ys
-  joined-append [] ys = refl
-  joined-append (x ∷ xs) ys = rw (joined-append xs ys, append_assoc)
+  pub joined_append : (xs ys : List X) → flat_map f (xs ++ ys) ≡ flat_map f xs ++ flat_map f ys
+  joined_append [] ys = refl
+  joined_append (x ∷ xs) ys = rw (joined_append xs ys, append_assoc)
 
-  pub length-joined : (k : ℕ) (xs : List X) → AllByRecursion (λ x. length (f x) ≡ k) xs → length (flat_map f xs) ≡ k * length xs
-  length-joined k [] h = rw mul-zero
-  length-joined k (x ∷ xs) h = rw (length-append, mul-suc, length-joined k xs h.1, h.0) (omega arith)
+  pub length_joined : (k : ℕ) (xs : List X) → AllByRecursion (λ x. length (f x) ≡ k) xs → length (flat_map f xs) ≡ k * length xs
+  length_joined k [] h = rw mul-zero
+  length_joined k (x ∷ xs) h = rw (length-append, mul-suc, length_joined k xs h.1, h.0) (omega arith)
 
   -- with a rest ys after the chunks
-  pub chunks-joined : (k : ℕ) (xs : List X) (ys : List A) → AllByRecursion (λ x. length (f x) ≡ k) xs → chunks k (length xs) (flat_map f xs ++ ys) ≡ map f xs
-  chunks-joined k [] ys h = refl
-  chunks-joined k (x ∷ xs) ys h =
-      rw (append_assoc, take_at (f x) (flat_map f xs ++ ys) k h.0, drop_at (f x) (flat_map f xs ++ ys) k h.0, chunks-joined k xs ys h.1)
+  pub chunks_joined : (k : ℕ) (xs : List X) (ys : List A) → AllByRecursion (λ x. length (f x) ≡ k) xs → chunks k (length xs) (flat_map f xs ++ ys) ≡ map f xs
+  chunks_joined k [] ys h = refl
+  chunks_joined k (x ∷ xs) ys h =
+      rw (append_assoc, take_at (f x) (flat_map f xs ++ ys) k h.0, drop_at (f x) (flat_map f xs ++ ys) k h.0, chunks_joined k xs ys h.1)
 
-  pub chunks-joined-all : (k : ℕ) (xs : List X) → AllByRecursion (λ x. length (f x) ≡ k) xs → chunks k (length xs) (flat_map f xs) ≡ map f xs
-  chunks-joined-all k xs h = ap (chunks k (length xs)) (sym (append-nil (flat_map f xs))) ∙ chunks-joined k xs [] h
+  pub chunks_joined_all : (k : ℕ) (xs : List X) → AllByRecursion (λ x. length (f x) ≡ k) xs → chunks k (length xs) (flat_map f xs) ≡ map f xs
+  chunks_joined_all k xs h = ap (chunks k (length xs)) (sym (append-nil (flat_map f xs))) ∙ chunks_joined k xs [] h
 
-  pub get_or-joined : (k : ℕ) (xs : List X) (i j : ℕ) (d : A) (e : X) → AllByRecursion (λ x. length (f x) ≡ k) xs → i < length xs → j < k → get_or (flat_map f xs) (k * i + j) d ≡ get_or (f (get_or xs i e)) j d
-  get_or-joined k [] i j d e h l m = absurd (omega arith)
-  get_or-joined k (x ∷ xs) zero j d e h l m = rw (mul-zero, zero-add) (get_or_append_left (f x) (flat_map f xs) d j (omega (arith, h.0)))
-  get_or-joined k (x ∷ xs) (suc i) j d e h l m =
+  pub get_or_joined : (k : ℕ) (xs : List X) (i j : ℕ) (d : A) (e : X) → AllByRecursion (λ x. length (f x) ≡ k) xs → i < length xs → j < k → get_or (flat_map f xs) (k * i + j) d ≡ get_or (f (get_or xs i e)) j d
+  get_or_joined k [] i j d e h l m = absurd (omega arith)
+  get_or_joined k (x ∷ xs) zero j d e h l m = rw (mul-zero, zero-add) (get_or_append_left (f x) (flat_map f xs) d j (omega (arith, h.0)))
+  get_or_joined k (x ∷ xs) (suc i) j d e h l m =
       get_or-append_right (f x) (flat_map f xs) k (k * suc i + j) d h.0 (omega (arith, mul-suc k i))
-      ∙ (let q : k * suc i + j - k ≡ k * i + j = omega (arith, mul-suc k i) in rw q (get_or-joined k xs i j d e h.1 (omega arith) m))
+      ∙ (let q : k * suc i + j - k ≡ k * i + j = omega (arith, mul-suc k i) in rw q (get_or_joined k xs i j d e h.1 (omega arith) m))
 
 -- what holds of everything holds of each element
-pub all-always : {X : Type 0} (P : X → Type 0) → ((x : X) → P x) → (xs : List X) → AllByRecursion P xs
-all-always P h [] = tt
-all-always P h (x ∷ xs) = (h x, all-always P h xs)
+pub all_always : {X : Type 0} (P : X → Type 0) → ((x : X) → P x) → (xs : List X) → AllByRecursion P xs
+all_always P h [] = tt
+all_always P h (x ∷ xs) = (h x, all_always P h xs)
 
 pub all_replicate : {X : Type 0} (P : X → Type 0) (n : ℕ) (x : X) → P x → AllByRecursion P (replicate n x)
 all_replicate P zero x h = tt
 all_replicate P (suc n) x h = (h, all_replicate P n x h)
 
-pub all-joined : {X A : Type 0} (P : A → Type 0) (f : X → List A) (xs : List X) → AllByRecursion (λ x. AllByRecursion P (f x)) xs → AllByRecursion P (flat_map f xs)
-all-joined P f [] h = tt
-all-joined P f (x ∷ xs) h = All-append P (f x) (flat_map f xs) h.0 (all-joined P f xs h.1)
+pub all_joined : {X A : Type 0} (P : A → Type 0) (f : X → List A) (xs : List X) → AllByRecursion (λ x. AllByRecursion P (f x)) xs → AllByRecursion P (flat_map f xs)
+all_joined P f [] h = tt
+all_joined P f (x ∷ xs) h = All-append P (f x) (flat_map f xs) h.0 (all_joined P f xs h.1)
 
 -- one chunk filled up, and the rest of the list filled up to n chunks
 pad_chunk : (k n : ℕ) (ds : List ℕ) → (take k ds ++ replicate (k - length (take k ds)) 0) ++ (drop k ds ++ replicate (k * n - length (drop k ds)) 0) ≡ ds ++ replicate (k * suc n - length ds) 0
@@ -152,29 +152,29 @@ pad_chunk k n ds = ⊎_elim short whole (cases_lt (length ds) k)
 
 -- Numbers of k digits each, for the digits of a list: zeros fill up the last.
 module _ (b k : ℕ) where
-  pub joined-digits : (n : ℕ) (ds : List ℕ) → AllByRecursion (λ d. d < b) ds → length ds ≤ k * n → flat_map (digits b k) (map (number b) (chunks k n ds)) ≡ ds ++ replicate (k * n - length ds) 0
-  joined-digits zero ds h l = rw (nil_from_length ds (omega (arith, mul-zero k)), mul-zero)
-  joined-digits (suc n) ds h l =
+  pub joined_digits : (n : ℕ) (ds : List ℕ) → AllByRecursion (λ d. d < b) ds → length ds ≤ k * n → flat_map (digits b k) (map (number b) (chunks k n ds)) ≡ ds ++ replicate (k * n - length ds) 0
+  joined_digits zero ds h l = rw (nil_from_length ds (omega (arith, mul-zero k)), mul-zero)
+  joined_digits (suc n) ds h l =
       rw (
         digits_number b k (take k ds) (All-take (λ d. d < b) k ds h) (simp length-take (omega arith)),
-        joined-digits n (drop k ds) (All-drop (λ d. d < b) k ds h) (simp length-drop (omega (arith, mul-suc k n))),
+        joined_digits n (drop k ds) (All-drop (λ d. d < b) k ds h) (simp length-drop (omega (arith, mul-suc k n))),
       )
       (pad_chunk k n ds)
 
-  pub chunks-under : (n : ℕ) (ds : List ℕ) → 0 < b → AllByRecursion (λ d. d < b) ds → AllByRecursion (λ w. w < b ^ k) (map (number b) (chunks k n ds))
-  chunks-under zero ds p h = tt
-  chunks-under (suc n) ds p h =
+  pub chunks_under : (n : ℕ) (ds : List ℕ) → 0 < b → AllByRecursion (λ d. d < b) ds → AllByRecursion (λ w. w < b ^ k) (map (number b) (chunks k n ds))
+  chunks_under zero ds p h = tt
+  chunks_under (suc n) ds p h =
       let l : length (take k ds) ≤ k = simp length-take (omega arith) in (
         omega (arith, number_lt b (take k ds) (All-take (λ d. d < b) k ds h), pow-le-pow_right p l),
-        chunks-under n (drop k ds) p (All-drop (λ d. d < b) k ds h),
+        chunks_under n (drop k ds) p (All-drop (λ d. d < b) k ds h),
       )
 
   map-digits : (ws : List ℕ) → 0 < b → AllByRecursion (λ w. w < b ^ k) ws → map (number b) (map (digits b k) ws) ≡ ws
   map-digits [] p h = refl
   map-digits (w ∷ ws) p h = rw (number_digits b k w p h.0, map-digits ws p h.1)
 
-  pub all-length-digits : (ws : List ℕ) → AllByRecursion (λ w. length (digits b k w) ≡ k) ws
-  all-length-digits = all-always (λ w. length (digits b k w) ≡ k) (length_digits b k)
+  pub all_length-digits : (ws : List ℕ) → AllByRecursion (λ w. length (digits b k w) ≡ k) ws
+  all_length-digits = all_always (λ w. length (digits b k w) ≡ k) (length_digits b k)
 
   pub chunks-digits : (ws : List ℕ) → 0 < b → AllByRecursion (λ w. w < b ^ k) ws → map (number b) (chunks k (length ws) (flat_map (digits b k) ws)) ≡ ws
-  chunks-digits ws p h = rw (chunks-joined-all (digits b k) k ws (all-length-digits ws)) (map-digits ws p h)
+  chunks-digits ws p h = rw (chunks_joined_all (digits b k) k ws (all_length-digits ws)) (map-digits ws p h)

@@ -17,7 +17,7 @@ use Rattle.boolean.specs.Bools.{from_bits, to_bits, groups, rest, held_bits, boo
 use Rattle.boolean.specs.declared.bools.Bools.{Bools}
 use Rattle.column.specs.Column.{Areas, taken, pushed, push_answer}
 use Rattle.column.specs.Kind.{L}
-use Rattle.boolean.proofs.BoolsLaws.{length-to_bits, to_bits-from_bits, from_bits-to_bits, from_bits-lt, length_rest, unique, rest_more, rest-full, length-bits, bits-more}
+use Rattle.boolean.proofs.BoolsLaws.{length-to_bits, to_bits-from_bits, from_bits-to_bits, from_bits_lt, length_rest, unique, rest_more, rest-full, length_bits, bits_more}
 use Rattle.column.proofs.WordLemmas.{all_words, every-words}
 
 -- the number of joined and of cut bits
@@ -40,7 +40,7 @@ low : (n : ℕ) (xs : List Bool) → from_bits (take n xs) < 2 ^ n
 low n xs =
     let p : 0 < 2 = omega arith in
     let l : length (take n xs) ≤ n = simp length-take (omega arith) in
-    omega (arith, from_bits-lt (take n xs), pow-le-pow_right p l)
+    omega (arith, from_bits_lt (take n xs), pow-le-pow_right p l)
 
 pub from_bits-drop : (n : ℕ) (xs : List Bool) → from_bits (drop n xs) ≡ from_bits xs / 2 ^ n
 from_bits-drop n xs = sym (ap (λ m. m / 2 ^ n) (cut n xs) ∙ shr_high (from_bits (drop n xs)) n (from_bits (take n xs)) (low n xs))
@@ -53,29 +53,29 @@ pub to_bits_is : (n w : ℕ) (bs : List Bool) → length bs ≡ n → from_bits 
 to_bits_is n w bs l e = ap₂ to_bits (sym l) (sym e) ∙ to_bits-from_bits bs
 
 -- a word shifted up by n, and its k lowest bits put above n bits
-shl-cut : (b n k : ℕ) → k + n ≡ 64 → (b * 2 ^ n) % 2 ^ 64 ≡ b % 2 ^ k * 2 ^ n
-shl-cut b n k e =
+shl_cut : (b n k : ℕ) → k + n ≡ 64 → (b * 2 ^ n) % 2 ^ 64 ≡ b % 2 ^ k * 2 ^ n
+shl_cut b n k e =
     ap (λ m. (b * 2 ^ n) % 2 ^ m) (sym e) ∙ mod-pow-add (b * 2 ^ n) k n
     ∙ rw (shl-shr, mul-mod_left) (omega arith)
 
-pub or-shl : (w b n k : ℕ) → k + n ≡ 64 → w < 2 ^ n → bit_or w ((b * 2 ^ n) % 2 ^ 64) ≡ b % 2 ^ k * 2 ^ n + w
-or-shl w b n k e h = ap (bit_or w) (shl-cut b n k e) ∙ or_shifted_r (b % 2 ^ k) n w h
+pub or_shl : (w b n k : ℕ) → k + n ≡ 64 → w < 2 ^ n → bit_or w ((b * 2 ^ n) % 2 ^ 64) ≡ b % 2 ^ k * 2 ^ n + w
+or_shl w b n k e h = ap (bit_or w) (shl_cut b n k e) ∙ or_shifted_r (b % 2 ^ k) n w h
 
 -- How many of ys are taken.
 -- a list never takes more than it has room for
-taken-room : (t : List Bool → Bool → Bool) → ((xs : List Bool) (x : Bool) → t xs x ≡ true → length xs < L) → (xs ys : List Bool) → length xs ≤ L → length xs + taken t xs ys ≤ L
-taken-room t f xs [] l = omega arith
-taken-room t f xs (y ∷ ys) l =
+taken_room : (t : List Bool → Bool → Bool) → ((xs : List Bool) (x : Bool) → t xs x ≡ true → length xs < L) → (xs ys : List Bool) → length xs ≤ L → length xs + taken t xs ys ≤ L
+taken_room t f xs [] l = omega arith
+taken_room t f xs (y ∷ ys) l =
     cond_both (t xs y) (suc (taken t (xs ++ y ∷ []) ys)) 0 (λ k. length xs + k ≤ L)
     (λ e.
     let h = f xs y e in
     let p = length_push xs y in
-    omega (arith, taken-room t f (xs ++ y ∷ []) ys (omega arith)))
+    omega (arith, taken_room t f (xs ++ y ∷ []) ys (omega arith)))
     (λ e. omega arith)
 
 module _ (below : Areas → List ℕ → ℕ → Bool) (a : Areas) where
-  takes-room : (xs : List Bool) (x : Bool) → bools_takes below a xs x ≡ true → length xs < L
-  takes-room xs x e = ltb-true (length xs) L (and_parts (ltb (length xs) L) _ e).0
+  takes_room : (xs : List Bool) (x : Bool) → bools_takes below a xs x ≡ true → length xs < L
+  takes_room xs x e = ltb-true (length xs) L (and_parts (ltb (length xs) L) _ e).0
 
   -- as long as no word is completed, all are
   taken-short : (xs ys : List Bool) → length (rest xs) + length ys ≤ 63 → length xs + length ys ≤ L → taken (bools_takes below a) xs ys ≡ length ys
@@ -124,21 +124,21 @@ pub record Kept (ws : List ℕ) (n w : ℕ) : Type 0 where
 pub kept : {C : Type 0} {f : C → List ℕ} {sound : C → Type 0} {c : Bools C} → BoolsSound f sound c → Kept (f c.values) c.tail.count c.tail.word
 kept s = record { words = all_words _ s.words; few = s.tail.few; clean = s.tail.clean; short = s.short }
 
-pub sound-kept : {C : Type 0} {f : C → List ℕ} {sound : C → Type 0} {c : Bools C} → sound c.values → Kept (f c.values) c.tail.count c.tail.word → BoolsSound f sound c
-sound-kept h k = record { below = h; tail = record { few = k.few; clean = k.clean }; words = every-words _ k.words; short = k.short }
+pub sound_kept : {C : Type 0} {f : C → List ℕ} {sound : C → Type 0} {c : Bools C} → sound c.values → Kept (f c.values) c.tail.count c.tail.word → BoolsSound f sound c
+sound_kept h k = record { below = h; tail = record { few = k.few; clean = k.clean }; words = every-words _ k.words; short = k.short }
 
 -- the word w of n bits with the bits of b above them
 abbrev pub filled : ℕ → ℕ → ℕ → ℕ
 filled w n b = bit_or w ((b * 2 ^ n) % 2 ^ 64)
 
 pub length-held : (ws : List ℕ) (n w : ℕ) → length (held_bits ws n w) ≡ 64 * length ws + n
-length-held ws n w = length-append (flat_map (to_bits 64) ws) (to_bits n w) ∙ ap₂ (λ x y. x + y) (length-bits ws) (length-to_bits n w)
+length-held ws n w = length-append (flat_map (to_bits 64) ws) (to_bits n w) ∙ ap₂ (λ x y. x + y) (length_bits ws) (length-to_bits n w)
 
 -- what a push that was refused or taken leaves
 module _ {E : Type 0} (xs ys : List E) (x : E) where
-  pub push-refused : (v : Bool) {f : Fault} → Err f ≡ push_answer v → ys ≡ pushed v xs x → (v ≡ false) × (f ≡ refuse NotTaken 0) × (ys ≡ xs)
-  push-refused false e h = (refl, cc, h)
-  push-refused true e h = let z : ◌≡◌ {A = ℕ} 0 1 = cc in absurd (omega arith)
+  pub push_refused : (v : Bool) {f : Fault} → Err f ≡ push_answer v → ys ≡ pushed v xs x → (v ≡ false) × (f ≡ refuse NotTaken 0) × (ys ≡ xs)
+  push_refused false e h = (refl, cc, h)
+  push_refused true e h = let z : ◌≡◌ {A = ℕ} 0 1 = cc in absurd (omega arith)
 
   pub push-taken : (v : Bool) {u : Unit {0}} → Ok u ≡ push_answer v → ys ≡ pushed v xs x → (v ≡ true) × (ys ≡ xs ++ x ∷ [])
   push-taken true e h = (refl, h)
@@ -154,11 +154,11 @@ given b m e = let p = and_parts (leb m 64) (ltb b (2 ^ m)) (sym e) in record { m
 
 -- what is answered and what is left, by whether all are taken
 module _ (t : List Bool → Bool → Bool) (xs : List Bool) {b m : ℕ} (h : Given b m) {v : Bool} (e : bits_taken t xs b m ≡ v) where
-  pub bits-answer : push_answer v ≡ push_bits_answer t xs b m
-  bits-answer = rw (le-leb m 64 h.most, lt-ltb b (2 ^ m) h.under, e)
+  pub bits_answer : push_answer v ≡ push_bits_answer t xs b m
+  bits_answer = rw (le-leb m 64 h.most, lt-ltb b (2 ^ m) h.under, e)
 
-  pub bits-list : cond v (xs ++ to_bits m b) xs ≡ bits_pushed t xs b m
-  bits-list = rw (le-leb m 64 h.most, lt-ltb b (2 ^ m) h.under, e)
+  pub bits_list : cond v (xs ++ to_bits m b) xs ≡ bits_pushed t xs b m
+  bits_list = rw (le-leb m 64 h.most, lt-ltb b (2 ^ m) h.under, e)
 
 -- words and a tail that hold xs
 pub record Grown (xs : List Bool) (ws : List ℕ) (n w : ℕ) : Type 0 where
@@ -173,10 +173,10 @@ module _ {ws : List ℕ} {n w : ℕ} (k : Kept ws n w) where
   valid = omega arith
 
   module _ {b m : ℕ} (g : Given b m) where
-    from_bits-both : (j : ℕ) → j + n ≡ 64 → from_bits (to_bits n w ++ take j (to_bits m b)) ≡ filled w n b
-    from_bits-both j e =
+    from_bits_both : (j : ℕ) → j + n ≡ 64 → from_bits (to_bits n w ++ take j (to_bits m b)) ≡ filled w n b
+    from_bits_both j e =
         from_bits-append (to_bits n w) (take j (to_bits m b))
-        ∙ (rw (length-to_bits n w, from_bits-to_bits n w k.clean, from_bits-take j (to_bits m b), from_bits-to_bits m b g.under, or-shl w b n j e k.clean)
+        ∙ (rw (length-to_bits n w, from_bits-to_bits n w k.clean, from_bits-take j (to_bits m b), from_bits-to_bits m b g.under, or_shl w b n j e k.clean)
         (omega (arith, mul_comm (2 ^ n) (b % 2 ^ j))))
 
     module _ (room : m ≤ L - length (held_bits ws n w)) where
@@ -184,17 +184,17 @@ module _ {ws : List ℕ} {n w : ℕ} (k : Kept ws n w) where
       fits = omega (arith, length-held ws n w)
 
       -- no word is completed
-      grown-below : n + m < 64 → Grown (held_bits ws n w ++ to_bits m b) ws (n + m) (filled w n b)
-      grown-below l =
+      grown_below : n + m < 64 → Grown (held_bits ws n w ++ to_bits m b) ws (n + m) (filled w n b)
+      grown_below l =
           let bs = to_bits n w ++ to_bits m b in
           let number_is : from_bits bs ≡ filled w n b =
-          ap (λ ys. from_bits (to_bits n w ++ ys)) (sym (take_all (64 - n) (to_bits m b) (omega (arith, length-to_bits m b)))) ∙ from_bits-both (64 - n) (omega arith) in
+          ap (λ ys. from_bits (to_bits n w ++ ys)) (sym (take_all (64 - n) (to_bits m b) (omega (arith, length-to_bits m b)))) ∙ from_bits_both (64 - n) (omega arith) in
           let length-is : length bs ≡ n + m = length-append (to_bits n w) (to_bits m b) ∙ ap₂ (λ x y. x + y) (length-to_bits n w) (length-to_bits m b) in
           record {
             stays = record {
               words = k.words;
               few = omega arith;
-              clean = rw (number_is, length-is) at (from_bits-lt bs);
+              clean = rw (number_is, length-is) at (from_bits_lt bs);
               short = omega (arith, fits, length-held ws n w);
             };
             list =
@@ -203,62 +203,62 @@ module _ {ws : List ℕ} {n w : ℕ} (k : Kept ws n w) where
           }
 
       -- a word is completed
-      grown-above : (j : ℕ) → j + n ≡ 64 → j ≤ m → Grown (held_bits ws n w ++ to_bits m b) (ws ++ filled w n b ∷ []) (m - j) (b / 2 ^ j)
-      grown-above j e l =
+      grown_above : (j : ℕ) → j + n ≡ 64 → j ≤ m → Grown (held_bits ws n w ++ to_bits m b) (ws ++ filled w n b ∷ []) (m - j) (b / 2 ^ j)
+      grown_above j e l =
           let new = to_bits m b in
           let bs = to_bits n w ++ take j new in
           let o = length-to_bits m b in
           let length-is : length bs ≡ 64 = length-append (to_bits n w) (take j new) ∙ omega (arith, length-to_bits n w, length-take-le j new (omega arith)) in
           let length-left : length (drop j new) ≡ m - j = length-drop j new ∙ ap (λ x. x - j) o in
           let number-left : from_bits (drop j new) ≡ b / 2 ^ j = from_bits-drop j new ∙ ap (λ x. x / 2 ^ j) (from_bits-to_bits m b g.under) in
-          let word : filled w n b < 2 ^ 64 = rw (from_bits-both j e, length-is) at (from_bits-lt bs) in
+          let word : filled w n b < 2 ^ 64 = rw (from_bits_both j e, length-is) at (from_bits_lt bs) in
           record {
             stays = record {
               words = All-append (λ x. x < 2 ^ 64) ws (filled w n b ∷ []) k.words (word, tt);
               few = omega arith;
-              clean = rw (number-left, length-left) at (from_bits-lt (drop j new));
+              clean = rw (number-left, length-left) at (from_bits_lt (drop j new));
               short = omega (arith, fits, length-held ws n w, length_push ws (filled w n b));
             };
             list =
-                ap₂ (λ v ys. flat_map (to_bits 64) (ws ++ v ∷ []) ++ ys) (sym (from_bits-both j e)) (to_bits_is (m - j) (b / 2 ^ j) (drop j new) length-left number-left)
-                ∙ ap (λ ys. ys ++ drop j new) (bits-more ws bs length-is)
+                ap₂ (λ v ys. flat_map (to_bits 64) (ws ++ v ∷ []) ++ ys) (sym (from_bits_both j e)) (to_bits_is (m - j) (b / 2 ^ j) (drop j new) length-left number-left)
+                ∙ ap (λ ys. ys ++ drop j new) (bits_more ws bs length-is)
                 ∙ simp append_assoc (ap (λ ys. flat_map (to_bits 64) ws ++ (to_bits n w ++ ys)) (take-append-drop j new));
           }
 
       -- the same, as the code has it
-      pub grown-short : n % 64 + m < 64 → Grown (held_bits ws n w ++ to_bits m b) ws (n % 64 + m) (filled w (n % 64) b)
-      grown-short = rw valid grown-below
+      pub grown_short : n % 64 + m < 64 → Grown (held_bits ws n w ++ to_bits m b) ws (n % 64 + m) (filled w (n % 64) b)
+      grown_short = rw valid grown_below
 
-      pub grown-full : (vs : List ℕ) (x : ℕ) → vs ≡ ws ++ filled w (n % 64) b ∷ [] → x ≡ b / 2 ^ (64 - n % 64) → 64 ≤ n % 64 + m → Grown (held_bits ws n w ++ to_bits m b) vs (n % 64 + m - 64) x
-      grown-full vs x e f l =
+      pub grown_full : (vs : List ℕ) (x : ℕ) → vs ≡ ws ++ filled w (n % 64) b ∷ [] → x ≡ b / 2 ^ (64 - n % 64) → 64 ≤ n % 64 + m → Grown (held_bits ws n w ++ to_bits m b) vs (n % 64 + m - 64) x
+      grown_full vs x e f l =
           let q : n % 64 + m - 64 ≡ m - (64 - n) = omega arith in
-          rw (q, e, f, valid) (grown-above (64 - n) (omega arith) (omega arith))
+          rw (q, e, f, valid) (grown_above (64 - n) (omega arith) (omega arith))
 
-    pub left-none : n % 64 ≡ 0 → b / 2 ^ (64 - n % 64) ≡ 0
-    left-none e =
+    pub left_none : n % 64 ≡ 0 → b / 2 ^ (64 - n % 64) ≡ 0
+    left_none e =
         let p : 0 < 2 = omega arith in
         rw e (div-eq_of_lt (omega (arith, pow-le-pow_right p g.most)))
 
     -- whether they are taken
     module _ (below : Areas → List ℕ → ℕ → Bool) (a : Areas) where
-      abbrev all-taken : Bool
-      all-taken = bits_taken (bools_takes below a) (held_bits ws n w) b m
+      abbrev all_taken : Bool
+      all_taken = bits_taken (bools_takes below a) (held_bits ws n w) b m
 
-      pub taken_none : L - length (held_bits ws n w) < m → all-taken ≡ false
+      pub taken_none : L - length (held_bits ws n w) < m → all_taken ≡ false
       taken_none h =
           ne_eqb (taken (bools_takes below a) (held_bits ws n w) (to_bits m b)) m
-          (λ q. omega (arith, taken-room (bools_takes below a) (takes-room below a) (held_bits ws n w) (to_bits m b) (omega (arith, length-held ws n w))))
+          (λ q. omega (arith, taken_room (bools_takes below a) (takes_room below a) (held_bits ws n w) (to_bits m b) (omega (arith, length-held ws n w))))
 
       module _ (room : m ≤ L - length (held_bits ws n w)) where
-        pub taken-all : n % 64 + m < 64 → all-taken ≡ true
-        taken-all s =
+        pub taken_all : n % 64 + m < 64 → all_taken ≡ true
+        taken_all s =
             let f = fits room in
             let r = ap length stands.1 in
             let o = length-to_bits n w in
             let p = length-to_bits m b in
             eq-eqb (taken (bools_takes below a) (held_bits ws n w) (to_bits m b)) m (taken-short below a (held_bits ws n w) (to_bits m b) (omega arith) (omega arith) ∙ p)
 
-        pub taken-filled : 64 ≤ n % 64 + m → all-taken ≡ below a ws (filled w (n % 64) b)
+        pub taken-filled : 64 ≤ n % 64 + m → all_taken ≡ below a ws (filled w (n % 64) b)
         taken-filled s =
             let xs = held_bits ws n w in
             let old = to_bits n w in
@@ -272,7 +272,7 @@ module _ {ws : List ℕ} {n w : ℕ} (k : Kept ws n w) where
             ∙ taken_word below a xs new (omega arith) (omega arith) (omega arith)
             ∙ ap₂ (λ vs bs. below a vs (from_bits (take 64 (bs ++ new)))) stands.0 stands.1
             ∙ ap (λ bs. below a ws (from_bits bs)) (ap (λ x. take x (old ++ new)) q ∙ take-append-add old new (64 - n))
-            ∙ ap (below a ws) (from_bits-both (64 - n) (omega arith) ∙ ap (λ x. filled w x b) (sym valid))
+            ∙ ap (below a ws) (from_bits_both (64 - n) (omega arith) ∙ ap (λ x. filled w x b) (sym valid))
 
 -- The bits at a place.
 -- word k of the number that words of j bits and a tail write
@@ -302,14 +302,14 @@ module _ (r v : ℕ) (v-is : r % 2 ^ 64 ≡ v) (s k : ℕ) (e : s + k ≡ 64) wh
   one_word = sym (field_of r k s) ∙ ap (λ x. r % 2 ^ x / 2 ^ s) (add_comm k s ∙ e) ∙ ap (λ x. x / 2 ^ s) v-is
 
   -- and the next word above it
-  two-words : (u : ℕ) → r / 2 ^ 64 % 2 ^ 64 ≡ u → r / 2 ^ s % 2 ^ 64 ≡ filled (v / 2 ^ s) k u
-  two-words u u-is =
+  two_words : (u : ℕ) → r / 2 ^ 64 % 2 ^ 64 ≡ u → r / 2 ^ s % 2 ^ 64 ≡ filled (v / 2 ^ s) k u
+  two_words u u-is =
       let top : r / 2 ^ s / 2 ^ k ≡ r / 2 ^ 64 = shr-shr r s k ∙ ap (λ x. r / 2 ^ x) e in
       let low-u : r / 2 ^ 64 % 2 ^ s ≡ u % 2 ^ s = sym (mod-mod-pow (r / 2 ^ 64) k s) ∙ ap (λ x. r / 2 ^ 64 % 2 ^ x % 2 ^ s) (add_comm k s ∙ e) ∙ ap (λ x. x % 2 ^ s) u-is in
       let small : v / 2 ^ s < 2 ^ k = subst (λ x. x < 2 ^ k) one_word (mod_below (r / 2 ^ s) (2 ^ k) (pow_pos k)) in
       ap (λ x. r / 2 ^ s % 2 ^ x) (sym e) ∙ mod-pow-add (r / 2 ^ s) s k
       ∙ ap₂ (λ x y. x * 2 ^ k + y) (ap (λ x. x % 2 ^ s) top ∙ low-u) one_word
-      ∙ sym (or-shl (v / 2 ^ s) u k s e small)
+      ∙ sym (or_shl (v / 2 ^ s) u k s e small)
 
 -- x has the m bits at place i lowest
 pub record Reads (xs : List Bool) (i m x : ℕ) : Type 0 where
@@ -353,10 +353,10 @@ module _ {ws : List ℕ} {n w : ℕ} (k : Kept ws n w) (i m : ℕ) (h : i + m �
         bits = read (64 - s) (omega arith) ∙ ap (λ y. y % 2 ^ m) one;
       }
 
-  pub read-two : (v u x : ℕ) → v ≡ word_at ws w (i / 64) → u ≡ word_at ws w (i / 64 + 1) → x ≡ filled (v / 2 ^ (i % 64)) (64 - i % 64) u → 64 < i % 64 + m → m ≤ 64 → Reads (held_bits ws n w) i m x
-  read-two v u x v-is u-is x-is l q =
+  pub read_two : (v u x : ℕ) → v ≡ word_at ws w (i / 64) → u ≡ word_at ws w (i / 64 + 1) → x ≡ filled (v / 2 ^ (i % 64)) (64 - i % 64) u → 64 < i % 64 + m → m ≤ 64 → Reads (held_bits ws n w) i m x
+  read_two v u x v-is u-is x-is l q =
       let s = i % 64 in
-      let two : from / 2 ^ s % 2 ^ 64 ≡ x = two-words from v (first ∙ sym v-is) s (64 - s) (omega arith) u (second l ∙ sym u-is) ∙ sym x-is in
+      let two : from / 2 ^ s % 2 ^ 64 ≡ x = two_words from v (first ∙ sym v-is) s (64 - s) (omega arith) u (second l ∙ sym u-is) ∙ sym x-is in
       record {
         inside = h;
         word = subst (λ y. y < 2 ^ 64) two (mod_below (from / 2 ^ s) (2 ^ 64) (pow_pos 64));

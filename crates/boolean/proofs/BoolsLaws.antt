@@ -7,8 +7,8 @@ use Rattle.std.proofs.ByRecursion.{All-append, All-take, All-map, All-weaker}
 use Rattle.std.proofs.lemmas.Bool.{leb-true, le-leb, and_parts}
 use Rattle.area.specs.Digits.{number, digits, chunks}
 use Rattle.area.specs.Slice.{Slice, WellFormed, ZeroPadded, weight, of_words}
-use Rattle.area.proofs.DigitLemmas.{digits-number-all, number_digits, length_digits, digits-under, number_lt, length-chunks, all-chunks, joined-chunks, joined-append, length-joined, chunks-joined, all-always}
-use Rattle.area.proofs.SliceLemmas.{of_words-formed, of_words-padded, weight-append}
+use Rattle.area.proofs.DigitLemmas.{digits-number_all, number_digits, length_digits, digits_under, number_lt, length-chunks, all_chunks, joined_chunks, joined_append, length_joined, chunks_joined, all_always}
+use Rattle.area.proofs.SliceLemmas.{of_words-formed, of_words_padded, weight-append}
 use Rattle.column.specs.Kind.{first_refused, Format, Laws, Held, Accepted, L, every, reads, slot, word_of, least_words, reading_within}
 use Rattle.boolean.specs.Bools.{bit, from_bits, to_bits, groups, rest, held_bits, bools_format}
 use Rattle.column.specs.KindLemmas.{least_words_lem, in_bounds, after-reads, slot-formed}
@@ -20,35 +20,35 @@ bits_back [] = refl
 bits_back (true ∷ bs) = ap (λ cs. true ∷ cs) (bits_back bs)
 bits_back (false ∷ bs) = ap (λ cs. false ∷ cs) (bits_back bs)
 
-digit-back : (d : ℕ) → d < 2 → bit (eqb 1 d) ≡ d
-digit-back zero h = refl
-digit-back (suc zero) h = refl
-digit-back (suc (suc d)) h = absurd (omega arith)
+digit_back : (d : ℕ) → d < 2 → bit (eqb 1 d) ≡ d
+digit_back zero h = refl
+digit_back (suc zero) h = refl
+digit_back (suc (suc d)) h = absurd (omega arith)
 
 digits-back : (ds : List ℕ) → AllByRecursion (λ d. d < 2) ds → map bit (map (eqb 1) ds) ≡ ds
 digits-back [] h = refl
-digits-back (d ∷ ds) h = ap₂ ◌∷◌ (digit-back d h.0) (digits-back ds h.1)
+digits-back (d ∷ ds) h = ap₂ ◌∷◌ (digit_back d h.0) (digits-back ds h.1)
 
-bits-under : (bs : List Bool) → AllByRecursion (λ d. d < 2) (map bit bs)
-bits-under [] = tt
-bits-under (true ∷ bs) = (omega arith, bits-under bs)
-bits-under (false ∷ bs) = (omega arith, bits-under bs)
+bits_under : (bs : List Bool) → AllByRecursion (λ d. d < 2) (map bit bs)
+bits_under [] = tt
+bits_under (true ∷ bs) = (omega arith, bits_under bs)
+bits_under (false ∷ bs) = (omega arith, bits_under bs)
 
 pub length-to_bits : (n w : ℕ) → length (to_bits n w) ≡ n
 length-to_bits n w = length-map (digits 2 n w) (eqb 1) ∙ length_digits 2 n w
 
 pub to_bits-from_bits : (bs : List Bool) → to_bits (length bs) (from_bits bs) ≡ bs
-to_bits-from_bits bs = ap (map (eqb 1)) (digits-number-all 2 (map bit bs) (length bs) (bits-under bs) (length-map bs bit)) ∙ bits_back bs
+to_bits-from_bits bs = ap (map (eqb 1)) (digits-number_all 2 (map bit bs) (length bs) (bits_under bs) (length-map bs bit)) ∙ bits_back bs
 
 pub from_bits-to_bits : (n w : ℕ) → w < 2 ^ n → from_bits (to_bits n w) ≡ w
-from_bits-to_bits n w h = ap (number 2) (digits-back (digits 2 n w) (digits-under 2 n w (omega arith))) ∙ number_digits 2 n w (omega arith) h
+from_bits-to_bits n w h = ap (number 2) (digits-back (digits 2 n w) (digits_under 2 n w (omega arith))) ∙ number_digits 2 n w (omega arith) h
 
-pub from_bits-lt : (bs : List Bool) → from_bits bs < 2 ^ length bs
-from_bits-lt bs = rw (length-map bs bit) at (number_lt 2 (map bit bs) (bits-under bs))
+pub from_bits_lt : (bs : List Bool) → from_bits bs < 2 ^ length bs
+from_bits_lt bs = rw (length-map bs bit) at (number_lt 2 (map bit bs) (bits_under bs))
 
 -- what fits a word
 from_bits-word : (bs : List Bool) → length bs ≤ 64 → from_bits bs < 2 ^ 64
-from_bits-word bs h = let p : 0 < 2 = omega arith in omega (arith, from_bits-lt bs, pow-le-pow_right p h)
+from_bits-word bs h = let p : 0 < 2 = omega arith in omega (arith, from_bits_lt bs, pow-le-pow_right p h)
 
 -- full groups as words, and back
 word_back : (c : List Bool) → length c ≡ 64 → to_bits 64 (from_bits c) ≡ c
@@ -63,12 +63,12 @@ words_back [] h = refl
 words_back (w ∷ ws) h = ap₂ ◌∷◌ (from_bits-to_bits 64 w h.0) (words_back ws h.1)
 
 full : (xs : List Bool) → AllByRecursion (λ c. length c ≡ 64) (chunks 64 (length xs / 64) xs)
-full xs = all-chunks 64 (length xs / 64) xs (omega arith)
+full xs = all_chunks 64 (length xs / 64) xs (omega arith)
 
 pub split : (xs : List Bool) → xs ≡ flat_map (to_bits 64) (groups xs) ++ rest xs
 split xs =
     let n = length xs / 64 in
-    sym (take-append-drop (64 * n) xs) ∙ ap (λ ys. ys ++ rest xs) (sym (groups-back (chunks 64 n xs) (full xs) ∙ joined-chunks 64 n xs))
+    sym (take-append-drop (64 * n) xs) ∙ ap (λ ys. ys ++ rest xs) (sym (groups-back (chunks 64 n xs) (full xs) ∙ joined_chunks 64 n xs))
 
 pub length-groups : (xs : List Bool) → length (groups xs) ≡ length xs / 64
 length-groups xs = length-map (chunks 64 (length xs / 64) xs) from_bits ∙ length-chunks 64 (length xs / 64) xs
@@ -76,17 +76,17 @@ length-groups xs = length-map (chunks 64 (length xs / 64) xs) from_bits ∙ leng
 pub length_rest : (xs : List Bool) → length (rest xs) ≤ 63
 length_rest xs = omega (arith, length-drop (64 * (length xs / 64)) xs)
 
-pub groups-fit : (xs : List Bool) → every is_word (groups xs) ≡ true
-groups-fit xs =
+pub groups_fit : (xs : List Bool) → every is_word (groups xs) ≡ true
+groups_fit xs =
     every-words (groups xs)
     (All-map (λ w. w < 2 ^ 64) from_bits (chunks 64 (length xs / 64) xs)
     (All-weaker (λ c. length c ≡ 64) (λ c. from_bits c < 2 ^ 64) (λ c h. from_bits-word c (omega arith)) (chunks 64 (length xs / 64) xs) (full xs)))
 
-pub all-64 : (ws : List ℕ) → AllByRecursion (λ w. length (to_bits 64 w) ≡ 64) ws
-all-64 = all-always (λ w. length (to_bits 64 w) ≡ 64) (length-to_bits 64)
+pub all_64 : (ws : List ℕ) → AllByRecursion (λ w. length (to_bits 64 w) ≡ 64) ws
+all_64 = all_always (λ w. length (to_bits 64 w) ≡ 64) (length-to_bits 64)
 
-pub length-bits : (ws : List ℕ) → length (flat_map (to_bits 64) ws) ≡ 64 * length ws
-length-bits ws = length-joined (to_bits 64) 64 ws (all-64 ws)
+pub length_bits : (ws : List ℕ) → length (flat_map (to_bits 64) ws) ≡ 64 * length ws
+length_bits ws = length_joined (to_bits 64) 64 ws (all_64 ws)
 
 -- a list is words and at most 63 bits in one way only
 abbrev pub Stands : List Bool → List ℕ → List Bool → Type 0
@@ -95,9 +95,9 @@ Stands xs ws bs = (groups xs ≡ ws) × (rest xs ≡ bs)
 pub unique : (xs : List Bool) (ws : List ℕ) (bs : List Bool) → xs ≡ flat_map (to_bits 64) ws ++ bs → length bs ≤ 63 → AllByRecursion (λ w. w < 2 ^ 64) ws → Stands xs ws bs
 unique xs ws bs e l h =
     let ys = flat_map (to_bits 64) ws in
-    let n : length xs / 64 ≡ length ws = omega (arith, ap length e, length-append ys bs, length-bits ws) in (
-      ap₂ (λ m zs. map from_bits (chunks 64 m zs)) n e ∙ ap (map from_bits) (chunks-joined (to_bits 64) 64 ws bs (all-64 ws)) ∙ words_back ws h,
-      ap₂ (λ m zs. drop (64 * m) zs) n e ∙ drop_at ys bs (64 * length ws) (length-bits ws),
+    let n : length xs / 64 ≡ length ws = omega (arith, ap length e, length-append ys bs, length_bits ws) in (
+      ap₂ (λ m zs. map from_bits (chunks 64 m zs)) n e ∙ ap (map from_bits) (chunks_joined (to_bits 64) 64 ws bs (all_64 ws)) ∙ words_back ws h,
+      ap₂ (λ m zs. drop (64 * m) zs) n e ∙ drop_at ys bs (64 * length ws) (length_bits ws),
     )
 
 -- one more element
@@ -109,28 +109,28 @@ rest_more xs x h =
     unique (xs ++ x ∷ []) (groups xs) (rest xs ++ x ∷ [])
     (split-push xs x)
     (omega (arith, length_push (rest xs) x))
-    (all_words (groups xs) (groups-fit xs))
+    (all_words (groups xs) (groups_fit xs))
 
 -- a full rest is one more word
-pub bits-more : (ws : List ℕ) (bs : List Bool) → length bs ≡ 64 → flat_map (to_bits 64) (ws ++ from_bits bs ∷ []) ≡ flat_map (to_bits 64) ws ++ bs
-bits-more ws bs h =
-    joined-append (to_bits 64) ws (from_bits bs ∷ []) ∙ ap (λ ys. flat_map (to_bits 64) ws ++ ys) (append-nil (to_bits 64 (from_bits bs)) ∙ word_back bs h)
+pub bits_more : (ws : List ℕ) (bs : List Bool) → length bs ≡ 64 → flat_map (to_bits 64) (ws ++ from_bits bs ∷ []) ≡ flat_map (to_bits 64) ws ++ bs
+bits_more ws bs h =
+    joined_append (to_bits 64) ws (from_bits bs ∷ []) ∙ ap (λ ys. flat_map (to_bits 64) ws ++ ys) (append-nil (to_bits 64 (from_bits bs)) ∙ word_back bs h)
 
 pub rest-full : (xs : List Bool) (x : Bool) → length (rest xs) ≡ 63 → Stands (xs ++ x ∷ []) (groups xs ++ from_bits (rest xs ++ x ∷ []) ∷ []) []
 rest-full xs x h =
     let last = rest xs ++ x ∷ [] in
     let whole : length last ≡ 64 = omega (arith, length_push (rest xs) x) in
     unique (xs ++ x ∷ []) (groups xs ++ from_bits last ∷ []) []
-    (split-push xs x ∙ sym (append-nil (flat_map (to_bits 64) (groups xs ++ from_bits last ∷ [])) ∙ bits-more (groups xs) last whole))
+    (split-push xs x ∙ sym (append-nil (flat_map (to_bits 64) (groups xs ++ from_bits last ∷ [])) ∙ bits_more (groups xs) last whole))
     (omega arith)
-    (All-append (λ w. w < 2 ^ 64) (groups xs) (from_bits last ∷ []) (all_words (groups xs) (groups-fit xs)) (from_bits-word last (omega arith), tt))
+    (All-append (λ w. w < 2 ^ 64) (groups xs) (from_bits last ∷ []) (all_words (groups xs) (groups_fit xs)) (from_bits-word last (omega arith), tt))
 
 pub every_true : (xs : List Bool) → every (λ (_ : Bool). true) xs ≡ true
 every_true [] = refl
 every_true (x ∷ xs) = every_true xs
 
 held-groups : (xs : List Bool) → length xs ≤ L → Held is_word (groups xs)
-held-groups xs h = (groups-fit xs, omega (arith, length-groups xs))
+held-groups xs h = (groups_fit xs, omega (arith, length-groups xs))
 
 -- the slice of the rest
 abbrev tail : List Bool → Slice
@@ -139,13 +139,13 @@ tail xs = of_words (from_bits (rest xs) ∷ length (rest xs) ∷ [])
 reads-back : (xs : List Bool) → length xs ≤ L → reading_within (leb (length (rest xs)) 63 && leb (64 * length (groups xs) + length (rest xs)) L) (flat_map (to_bits 64) (groups xs) ++ to_bits (length (rest xs)) (from_bits (rest xs))) ≡ reads xs
 reads-back xs h =
     let few = le-leb (length (rest xs)) 63 (length_rest xs) in
-    let l : 64 * length (groups xs) + length (rest xs) ≤ L = omega (arith, ap length (split xs), length-append (flat_map (to_bits 64) (groups xs)) (rest xs), length-bits (groups xs)) in
+    let l : 64 * length (groups xs) + length (rest xs) ≤ L = omega (arith, ap length (split xs), length-append (flat_map (to_bits 64) (groups xs)) (rest xs), length_bits (groups xs)) in
     let short = le-leb (64 * length (groups xs) + length (rest xs)) L l in
     rw (few, short, to_bits-from_bits (rest xs)) (ap reads (sym (split xs)))
 
-pub first-none : (p q : Option ℕ) → first_refused p q ≡ None → (p ≡ None) × (q ≡ None)
-first-none None q e = (refl, e)
-first-none (Some k) q e = (e, cc)
+pub first_none : (p q : Option ℕ) → first_refused p q ≡ None → (p ≡ None) × (q ≡ None)
+first_none None q e = (refl, e)
+first_none (Some k) q e = (e, cc)
 
 module _ (W : Format ℕ) where
   -- what accepted slices consist of: accepted words and a tail
@@ -162,7 +162,7 @@ module _ (W : Format ℕ) where
   parts ss xs a =
       let n = W.slots in
       let s = slot ss n in
-      let f = first-none (W.sized (take n ss)) (least_words 2 n s) a.fitting in
+      let f = first_none (W.sized (take n ss)) (least_words 2 n s) a.fitting in
       let r = after-reads 0 (W.reading (take n ss)) _ xs a.reading in
       let b = in_bounds _ _ xs r.2 in
       let t = and_parts (leb (word_of s 1) 63) (leb (64 * length r.0 + word_of s 1) L) b.0 in
@@ -201,7 +201,7 @@ module _ (W : Format ℕ) (laws : Laws is_word W) where
       let p = parts W ss xs a in
       let n = word_of (slot ss W.slots) 1 in
       let w = word_of (slot ss W.slots) 0 in
-      omega (arith, p.short, ap length p.is, length-append (flat_map (to_bits 64) p.ws) (to_bits n w), length-bits p.ws, length-to_bits n w)
+      omega (arith, p.short, ap length p.is, length-append (flat_map (to_bits 64) p.ws) (to_bits n w), length_bits p.ws, length-to_bits n w)
 
   least : (ss : List Slice) (xs : List Bool) → Accepted (bools_format W) ss xs → weight ((bools_format W).writing xs) ≤ weight ss
   least ss xs a =
@@ -234,11 +234,11 @@ module _ (W : Format ℕ) (laws : Laws is_word W) where
           fitting = rw (below, last, g.0.fitting) (rw b.fitting at a.fitting);
           reading = rw (below, last, g.0.reading) (rw b.reading at a.reading);
         },
-        All-append ZeroPadded gs (of_words t ∷ []) g.1 (of_words-padded t, tt),
+        All-append ZeroPadded gs (of_words t ∷ []) g.1 (of_words_padded t, tt),
       )
 
-  pub bools-laws : Laws (λ (_ : Bool). true) (bools_format W)
-  bools-laws = record {
+  pub bools_laws : Laws (λ (_ : Bool). true) (bools_format W)
+  bools_laws = record {
     shape = λ xs h. shape xs h.1;
     return = λ xs h. return xs h.1;
     sound = λ ss xs a. (every_true xs, sound ss xs a);

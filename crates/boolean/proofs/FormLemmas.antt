@@ -16,9 +16,9 @@ use Rattle.column.proofs.WordLemmas.{is_word}
 use Rattle.decode.specs.Decode.{Inside, slice_in}
 use Rattle.decode.specs.declared.decoded.DecodedStore.{DecodedStore}
 use Rattle.decode.specs.declared.span.Span.{Span}
-use Rattle.decode.proofs.DecodeLemmas.{length-span}
+use Rattle.decode.proofs.DecodeLemmas.{length_span}
 use Rattle.read.specs.Form.{Stands, There, form_answer, list_of, slices_within, words_in}
-use Rattle.read.proofs.PlaceLemmas.{Made, Place, bounds-err, bounds_ok, form-err, made, slices-last, slices-left, there-left}
+use Rattle.read.proofs.PlaceLemmas.{Made, Place, bounds_err, bounds_ok, form_err, made, slices_last, slices_left, there_left}
 use Rattle.read.proofs.StandLemmas.{stands}
 use Rattle.boolean.specs.Bools.{BoolsSound, bools_format, bools_list, held_bits, to_bits}
 use Rattle.boolean.specs.Form.{BoolsKept, bools_slices}
@@ -27,20 +27,20 @@ use Rattle.boolean.specs.declared.bools.Bools.{Bools}
 use Rattle.boolean.specs.declared.form.BoolsForm.{BoolsForm}
 use Rattle.boolean.specs.declared.tail.Tail.{Tail}
 use Rattle.boolean.proofs.BitsLemmas.{length-held}
-use Rattle.boolean.proofs.BoolsLaws.{first-none, parts}
+use Rattle.boolean.proofs.BoolsLaws.{first_none, parts}
 
 -- the n lowest digits are those of the rest modulo 2 ^ n
-digits-cut : (n w : ℕ) → digits 2 n (w % 2 ^ n) ≡ digits 2 n w
-digits-cut zero w = refl
-digits-cut (suc n) w =
+digits_cut : (n w : ℕ) → digits 2 n (w % 2 ^ n) ≡ digits 2 n w
+digits_cut zero w = refl
+digits_cut (suc n) w =
     let e : w % 2 ^ suc n ≡ (w / 2 % 2 ^ n) * 2 + w % 2 = rw add-one at (mod-pow-add w n 1) in
-    ap₂ ◌∷◌ (omega arith) (ap (digits 2 n) (omega arith) ∙ digits-cut n (w / 2))
+    ap₂ ◌∷◌ (omega arith) (ap (digits 2 n) (omega arith) ∙ digits_cut n (w / 2))
 
 -- the tail's slice as a form gives it, whole words
 module _ (ws : List ℕ) (s : Span) (i : Inside ws s) where
   pub tail-length : slice_length (of_words (slice_in ws s).words ∷ []) 0 ≡ Ok (8 * words_for s.bytes)
   tail-length =
-      ap (λ n. cond (leb (8 * n) (8 * CAP)) (Ok (8 * n)) (Err (refuse ImageTooLong 0))) (length-span ws s i)
+      ap (λ n. cond (leb (8 * n) (8 * CAP)) (Ok (8 * n)) (Err (refuse ImageTooLong 0))) (length_span ws s i)
       ∙ ap (λ b. cond b (Ok (8 * words_for s.bytes)) (Err (refuse ImageTooLong 0))) (le-leb (8 * words_for s.bytes) (8 * CAP) (omega arith))
 
   pub tail-word : (k : ℕ) → word_in_slice (of_words (slice_in ws s).words ∷ []) 0 k ≡ element (slice_in ws s).words k
@@ -70,7 +70,7 @@ module _ {F : Type 0} (slices : F → List ℕ → List Slice) (kept : F → Lis
       let c : word_of (slot (ss ++ l ∷ []) W.slots) 1 ≡ t.tail.count = ap (λ r. word_of r 1) last ∙ sym k.count in
       let w : to_bits t.tail.count t.tail.word ≡ to_bits (word_of (slot (ss ++ l ∷ []) W.slots) 1) (word_of (slot (ss ++ l ∷ []) W.slots) 0) =
       ap (to_bits t.tail.count) k.word
-      ∙ ap (map (eqb 1)) (digits-cut t.tail.count (word_of l 0))
+      ∙ ap (map (eqb 1)) (digits_cut t.tail.count (word_of l 0))
       ∙ ap₂ (λ m r. to_bits m (word_of r 0)) (sym c) (sym last) in
       record {
         values = b.0;
@@ -83,8 +83,8 @@ module _ {F : Type 0} (slices : F → List ℕ → List Slice) (kept : F → Lis
         giving = ap₂ (λ rs r. W.giving rs ++ of_words r.words ∷ []) front last;
       }
 
-  pub length-list : (b : Below) → length (list_of (bools_format W) (bools_slices slices t ws)) ≡ 64 * length (list_of W (slices t.values ws)) + t.tail.count
-  length-list b = sym (ap length b.list) ∙ length-held (list_of W (slices t.values ws)) t.tail.count t.tail.word
+  pub length_list : (b : Below) → length (list_of (bools_format W) (bools_slices slices t ws)) ≡ 64 * length (list_of W (slices t.values ws)) + t.tail.count
+  length_list b = sym (ap length b.list) ∙ length-held (list_of W (slices t.values ws)) t.tail.count t.tail.word
 
   module _ (s : Stands (bools_slices slices) (BoolsKept kept) (bools_format W) t ws) (laws : Laws is_word W) where
     -- a column over the words below, read from their form, and over the tail
@@ -108,9 +108,9 @@ module _ {F : Type 0} (slices : F → List ℕ → List Slice) (kept : F → Lis
     length-given = (laws.given _ _ (below s).values.accepted).0.count
 
 -- what a stored word and count stand for
-stored-cases : (b : Bool) (r : Tail) → ((t : Tail) → Some t ≡ cond b (Some r) None → (b ≡ true) × (t ≡ r)) × (None ≡ cond b (Some r) None → b ≡ false)
-stored-cases true r = (λ t e. (refl, cc), λ e. cc)
-stored-cases false r = (λ t e. (cc, cc), λ e. refl)
+stored_cases : (b : Bool) (r : Tail) → ((t : Tail) → Some t ≡ cond b (Some r) None → (b ≡ true) × (t ≡ r)) × (None ≡ cond b (Some r) None → b ≡ false)
+stored_cases true r = (λ t e. (refl, cc), λ e. cc)
+stored_cases false r = (λ t e. (cc, cc), λ e. refl)
 
 -- the answers to question 9 of bools, from those of the words below
 module _ {S F : Type 0} (f : S → List ℕ) (d : DecodedStore S) (slices : F → List ℕ → List Slice) (kept : F → List ℕ → Type 0) (W : Format ℕ) (a : ℕ) (t : There f d a (W.slots + 1)) (z : (bools_format W).sized (slices_within f d a (W.slots + 1)) ≡ None) where
@@ -127,65 +127,65 @@ module _ {S F : Type 0} (f : S → List ℕ) (d : DecodedStore S) (slices : F �
   Words r = There f d a W.slots → W.sized (slices_within f d a W.slots) ≡ None → form_answer slices kept (words_in f d) (slices_within f d a W.slots) a (W.reading (slices_within f d a W.slots)) r
 
   front : take W.slots ss ≡ slices_within f d a W.slots
-  front = slices-left f d a W.slots 1
+  front = slices_left f d a W.slots 1
 
-  pub there-words : There f d a W.slots
-  there-words = there-left f d a W.slots 1 t
+  pub there_words : There f d a W.slots
+  there_words = there_left f d a W.slots 1 t
 
-  passed-both : (W.sized (take W.slots ss) ≡ None) × (least_words 2 W.slots (slot ss W.slots) ≡ None)
-  passed-both = first-none _ _ z
+  passed_both : (W.sized (take W.slots ss) ≡ None) × (least_words 2 W.slots (slot ss W.slots) ≡ None)
+  passed_both = first_none _ _ z
 
-  none-words : W.sized (slices_within f d a W.slots) ≡ None
-  none-words = ap W.sized (sym front) ∙ passed-both.0
+  none_words : W.sized (slices_within f d a W.slots) ≡ None
+  none_words = ap W.sized (sym front) ∙ passed_both.0
 
-  pub two-words : 2 ≤ length (slot ss W.slots).words
-  two-words = least_words_lem 2 W.slots (slot ss W.slots) passed-both.1
+  pub two_words : 2 ≤ length (slot ss W.slots).words
+  two_words = least_words_lem 2 W.slots (slot ss W.slots) passed_both.1
 
-  pub made-words : (x : F) → Words (Ok x) → Made f d slices kept W a there-words x
-  made-words x h = made f d slices kept W a there-words none-words x (h there-words none-words)
+  pub made_words : (x : F) → Words (Ok x) → Made f d slices kept W a there_words x
+  made_words x h = made f d slices kept W a there_words none_words x (h there_words none_words)
 
-  pub words-refused : (v : Fault) → Words (Err v) → Answer (Err v)
-  words-refused v h =
-      form-err (bools_slices slices) (BoolsKept kept) (words_in f d) ss slices kept (words_in f d) (slices_within f d a W.slots) a a 0 (W.reading (take W.slots ss)) _ v (sym (add-zero a))
-      (subst (λ rs. form_answer slices kept (words_in f d) (slices_within f d a W.slots) a (W.reading rs) (Err v)) (sym front) (h there-words none-words))
+  pub words_refused : (v : Fault) → Words (Err v) → Answer (Err v)
+  words_refused v h =
+      form_err (bools_slices slices) (BoolsKept kept) (words_in f d) ss slices kept (words_in f d) (slices_within f d a W.slots) a a 0 (W.reading (take W.slots ss)) _ v (sym (add-zero a))
+      (subst (λ rs. form_answer slices kept (words_in f d) (slices_within f d a W.slots) a (W.reading rs) (Err v)) (sym front) (h there_words none_words))
 
   module _ (x : F) (h : Words (Ok x)) where
     abbrev pub size : ℕ
     size = 64 * length (list_of W (slices x (words_in f d))) + tail_word 1
 
     reads_both : (bools_format W).reading ss ≡ reading_within (leb (tail_word 1) 63 && leb size L) (held_bits (list_of W (slices x (words_in f d))) (tail_word 1) (tail_word 0))
-    reads_both = let m = made-words x h in rw (ap W.reading front ∙ m.reading, m.list)
+    reads_both = let m = made_words x h in rw (ap W.reading front ∙ m.reading, m.list)
 
     refused : (v : Fault) → leb (tail_word 1) 63 && leb size L ≡ false → v ≡ refuse SliceContent a → Answer (Err v)
-    refused v q i = rw reads_both (bounds-err (bools_slices slices) (BoolsKept kept) (words_in f d) ss a _ _ v q i)
+    refused v q i = rw reads_both (bounds_err (bools_slices slices) (BoolsKept kept) (words_in f d) ss a _ _ v q i)
 
     module _ (w n : ℕ) (w-is : w ≡ tail_word 0) (n-is : n ≡ tail_word 1) where
-      pub no-tail : None ≡ stored_tail w n → (v : Fault) → v ≡ refuse SliceContent a → Answer (Err v)
-      no-tail q v i = refused v (ap (λ m. leb m 63 && leb size L) (sym n-is) ∙ ap (λ c. c && leb size L) ((stored-cases (leb n 63) _).1 q)) i
+      pub no_tail : None ≡ stored_tail w n → (v : Fault) → v ≡ refuse SliceContent a → Answer (Err v)
+      no_tail q v i = refused v (ap (λ m. leb m 63 && leb size L) (sym n-is) ∙ ap (λ c. c && leb size L) ((stored_cases (leb n 63) _).1 q)) i
 
       module _ (r : Tail) (q : Some r ≡ stored_tail w n) where
-        is-stored : (leb n 63 ≡ true) × (r ≡ record { word = w % 2 ^ n; count = n })
-        is-stored = (stored-cases (leb n 63) _).0 r q
+        is_stored : (leb n 63 ≡ true) × (r ≡ record { word = w % 2 ^ n; count = n })
+        is_stored = (stored_cases (leb n 63) _).0 r q
 
-        pub stored-count : r.count ≡ tail_word 1
-        stored-count = ap (λ s. s.count) is-stored.1 ∙ n-is
+        pub stored_count : r.count ≡ tail_word 1
+        stored_count = ap (λ s. s.count) is_stored.1 ∙ n-is
 
-        pub stored-few : r.count ≤ 63
-        stored-few = omega (arith, leb-true n 63 is-stored.0, ap (λ s. s.count) is-stored.1)
+        pub stored_few : r.count ≤ 63
+        stored_few = omega (arith, leb-true n 63 is_stored.0, ap (λ s. s.count) is_stored.1)
 
         pub too_long : L < size → (v : Fault) → v ≡ refuse SliceContent a → Answer (Err v)
-        too_long l v i = refused v (ap₂ ◌&&◌ (ap (λ m. leb m 63) (sym n-is) ∙ is-stored.0) (lt-leb size L l)) i
+        too_long l v i = refused v (ap₂ ◌&&◌ (ap (λ m. leb m 63) (sym n-is) ∙ is_stored.0) (lt-leb size L l)) i
 
-        pub bools-made : size ≤ L → (p : Span) → Place f d a (W.slots + 1) t W.slots p → Answer (Ok (record { values = x; place = p; tail = r }))
-        bools-made l p at =
-            let m = made-words x h in
+        pub bools_made : size ≤ L → (p : Span) → Place f d a (W.slots + 1) t W.slots p → Answer (Ok (record { values = x; place = p; tail = r }))
+        bools_made l p at =
+            let m = made_words x h in
             rw reads_both
             (bounds_ok (bools_slices slices) (BoolsKept kept) (words_in f d) ss a _ _ _
-            (ap₂ ◌&&◌ (ap (λ k. leb k 63) (sym n-is) ∙ is-stored.0) (le-leb size L l))
+            (ap₂ ◌&&◌ (ap (λ k. leb k 63) (sym n-is) ∙ is_stored.0) (le-leb size L l))
             (record {
               values = m.keeps;
               inside = at.inside;
-              count = stored-count ∙ ap (λ s. word_of s 1) (sym at.slice);
-              word = ap (λ s. s.word) is-stored.1 ∙ ap₂ (λ u k. u % 2 ^ k) (w-is ∙ ap (λ s. word_of s 0) (sym at.slice)) (sym (ap (λ s. s.count) is-stored.1));
+              count = stored_count ∙ ap (λ s. word_of s 1) (sym at.slice);
+              word = ap (λ s. s.word) is_stored.1 ∙ ap₂ (λ u k. u % 2 ^ k) (w-is ∙ ap (λ s. word_of s 0) (sym at.slice)) (sym (ap (λ s. s.count) is_stored.1));
             })
-            (ap₂ (λ rs s. rs ++ s ∷ []) m.of at.slice ∙ slices-last f d a W.slots t))
+            (ap₂ (λ rs s. rs ++ s ∷ []) m.of at.slice ∙ slices_last f d a W.slots t))

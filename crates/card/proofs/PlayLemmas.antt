@@ -24,12 +24,12 @@ word_more now was area i l h = h ∙ append_assoc was (map Word (take i area)) _
 
 module _ (ss : List Slice) (area : List ℕ) where
   -- what an image that is written answers and leaves
-  pub written-ok : (k : ℕ) → Ok k ≡ encode_answer ss area 0 → (k ≡ length (image ss)) × (length (image ss) ≤ CAP) × (length (image ss) ≤ length area)
-  written-ok k h = grind (arith, nat_tests)
+  pub written_ok : (k : ℕ) → Ok k ≡ encode_answer ss area 0 → (k ≡ length (image ss)) × (length (image ss) ≤ CAP) × (length (image ss) ≤ length area)
+  written_ok k h = grind (arith, nat_tests)
 
-  pub image-read : (k : ℕ) → Ok k ≡ encode_answer ss area 0 → take k (encoded ss area 0) ≡ image ss
-  image-read k h =
-      let q = written-ok k h in
+  pub image_read : (k : ℕ) → Ok k ≡ encode_answer ss area 0 → take k (encoded ss area 0) ≡ image ss
+  image_read k h =
+      let q = written_ok k h in
       let e = cond-true (leb (length (image ss)) CAP && leb (0 + length (image ss)) (length area)) (paste area 0 (image ss) (length (image ss))) area (and_from _ _ (le-leb _ _ q.1) (le-leb _ _ (omega (arith, q.2)))) in
       (λ i. take ((q.0 ∙ sym (zero-add _)) i) (e i)) ∙ take-paste area 0 (image ss) (length (image ss)) (omega arith) (omega arith) ∙ take-length (image ss)
 
@@ -40,8 +40,8 @@ module _ (ss : List Slice) (area : List ℕ) where
   -- the image is printed: `last` is the area after it, of which the first i words are shown
   pub image-shown : (last : List ℕ) (k n i m : ℕ) (old mid new : List Line) → Ok k ≡ encode_answer ss area 0 → last ≡ encoded ss area 0 → m ≡ min k (length last) → i ≤ m → m ≤ i → mid ≡ old ++ ImageOf k ∷ [] → new ≡ mid ++ map Word (take i last) → new ≡ old ++ lines_of_image ss area n
   image-shown last k n i m old mid new h a b c d e f =
-      let t : take k last ≡ image ss = ap (take k) a ∙ image-read k h in
-      let j : i ≡ k = omega (arith, ap length t, length-take k last, (written-ok k h).0) in
+      let t : take k last ≡ image ss = ap (take k) a ∙ image_read k h in
+      let j : i ≡ k = omega (arith, ap length t, length-take k last, (written_ok k h).0) in
       f
       ∙ (λ x. e x ++ map Word (take (j x) last))
       ∙ append_assoc old (ImageOf k ∷ []) (map Word (take k last))
@@ -70,35 +70,35 @@ size-least Clear = omega arith
 size-least Image = omega arith
 
 -- an input that begins with a record, and one that does not
-pub records-begin : (bs : List ℕ) (r : Record Block) → record_of bs ≡ Some r → records bs ≡ Some r ∷ records (drop (size_of r) bs)
-records-begin [] r h = let z : ◌≡◌ {A = ℕ} 0 1 = cc in absurd (omega arith)
-records-begin (k ∷ bs) r h =
+pub records_begin : (bs : List ℕ) (r : Record Block) → record_of bs ≡ Some r → records bs ≡ Some r ∷ records (drop (size_of r) bs)
+records_begin [] r h = let z : ◌≡◌ {A = ℕ} 0 1 = cc in absurd (omega arith)
+records_begin (k ∷ bs) r h =
     subst (λ (o : Option (Record Block)). elim o [ Some q ↦ Some q ∷ records_after (size_of q - 1) bs | None ↦ None ∷ [] ] ≡ Some r ∷ records_after (size_of r - 1) bs) (sym h) refl
     ∙ ap (λ rs. Some r ∷ rs) (records_after_lem (size_of r - 1) bs ∙ ap records (size-suc r k bs))
 
-pub records-stop : (bs : List ℕ) → record_of bs ≡ None → 0 < length bs → records bs ≡ None ∷ []
-records-stop [] h l = absurd (omega arith)
-records-stop (k ∷ bs) h l =
+pub records_stop : (bs : List ℕ) → record_of bs ≡ None → 0 < length bs → records bs ≡ None ∷ []
+records_stop [] h l = absurd (omega arith)
+records_stop (k ∷ bs) h l =
     subst (λ (o : Option (Record Block)). elim o [ Some q ↦ Some q ∷ records_after (size_of q - 1) bs | None ↦ None ∷ [] ] ≡ None ∷ []) (sym h) refl
 
 -- a record lies within the input
 push-long : (k : ℕ) (bs : List ℕ) (x : Block) → record_by k bs ≡ Some (Push x) → 10 ≤ length bs
 push-long k bs x h = grind (arith, nat_tests)
 
-pub record-fits : (bs : List ℕ) (r : Record Block) → record_of bs ≡ Some r → size_of r ≤ length bs
-record-fits [] r h = let z : ◌≡◌ {A = ℕ} 0 1 = cc in absurd (omega arith)
-record-fits (k ∷ bs) (Push x) h = omega (arith, push-long k bs x h)
-record-fits (k ∷ bs) Clear h = omega arith
-record-fits (k ∷ bs) Image h = omega arith
+pub record_fits : (bs : List ℕ) (r : Record Block) → record_of bs ≡ Some r → size_of r ≤ length bs
+record_fits [] r h = let z : ◌≡◌ {A = ℕ} 0 1 = cc in absurd (omega arith)
+record_fits (k ∷ bs) (Push x) h = omega (arith, push-long k bs x h)
+record_fits (k ∷ bs) Clear h = omega arith
+record_fits (k ∷ bs) Image h = omega arith
 
 -- what the answer to a reading tells
-pub answer-some : (o : Option (Record Block)) (n : ℕ) (r : Record Block) → Ok r ≡ record_answer o n → o ≡ Some r
-answer-some (Some q) n r h = cc
-answer-some None n r h = let z : ◌≡◌ {A = ℕ} 0 1 = cc in absurd (omega arith)
+pub answer_some : (o : Option (Record Block)) (n : ℕ) (r : Record Block) → Ok r ≡ record_answer o n → o ≡ Some r
+answer_some (Some q) n r h = cc
+answer_some None n r h = let z : ◌≡◌ {A = ℕ} 0 1 = cc in absurd (omega arith)
 
-pub answer-none : (o : Option (Record Block)) (n : ℕ) (f : Fault) → Err f ≡ record_answer o n → (o ≡ None) × (f.refusal ≡ UnknownRecord)
-answer-none (Some q) n f h = let z : ◌≡◌ {A = ℕ} 0 1 = cc in absurd (omega arith)
-answer-none None n f h = let e : f ≡ refuse UnknownRecord n = cc in (refl, ap (λ (x : Fault). x.refusal) e)
+pub answer_none : (o : Option (Record Block)) (n : ℕ) (f : Fault) → Err f ≡ record_answer o n → (o ≡ None) × (f.refusal ≡ UnknownRecord)
+answer_none (Some q) n f h = let z : ◌≡◌ {A = ℕ} 0 1 = cc in absurd (omega arith)
+answer_none None n f h = let e : f ≡ refuse UnknownRecord n = cc in (refl, ap (λ (x : Fault). x.refusal) e)
 
 -- the lines depend on the area only by its length
 image-level : (ss : List Slice) (a b : List ℕ) (n : ℕ) → length a ≡ length b → lines_of_image ss a n ≡ lines_of_image ss b n
@@ -122,9 +122,9 @@ module _ (t : List Block → Block → Bool) (w : List Block → List Slice) (ar
     pub shown : new ≡ old ++ lines_of t w area xs (records bs)
 
   -- one record further on; u is t as the table has it now, and `lent` the area
-  pub ran-more : (at n m : ℕ) (u : List Block → Block → Bool) (lent : List ℕ) (ys zs : List Block) (new more : List Line) (r : Record Block) → Ok r ≡ record_answer (record_of (drop at bs)) n → m ≡ size_of r → u ≡ t → length lent ≡ length area → zs ≡ after u w lent ys r → more ≡ new ++ answer u w lent ys r → Ran at ys new → Ran (at + m) zs more
-  ran-more at n m u lent ys zs new more r h e v l a b c =
-      let p = records-begin (drop at bs) r (answer-some (record_of (drop at bs)) n r h) ∙ ap (λ ds. Some r ∷ records ds) (drop-drop (size_of r) at bs ∙ ap (λ k. drop (at + k) bs) (sym e)) in
+  pub ran_more : (at n m : ℕ) (u : List Block → Block → Bool) (lent : List ℕ) (ys zs : List Block) (new more : List Line) (r : Record Block) → Ok r ≡ record_answer (record_of (drop at bs)) n → m ≡ size_of r → u ≡ t → length lent ≡ length area → zs ≡ after u w lent ys r → more ≡ new ++ answer u w lent ys r → Ran at ys new → Ran (at + m) zs more
+  ran_more at n m u lent ys zs new more r h e v l a b c =
+      let p = records_begin (drop at bs) r (answer_some (record_of (drop at bs)) n r h) ∙ ap (λ ds. Some r ∷ records ds) (drop-drop (size_of r) at bs ∙ ap (λ k. drop (at + k) bs) (sym e)) in
       let q : zs ≡ after t w area ys r = a ∙ ap (λ s. after s w area ys r) v in
       let o : more ≡ new ++ answer t w area ys r = b ∙ ap (λ s. new ++ answer s w lent ys r) v ∙ ap (λ ls. new ++ ls) (answer-level t w lent area ys r l) in
       record {
@@ -137,18 +137,18 @@ module _ (t : List Block → Block → Bool) (w : List Block → List Slice) (ar
       }
 
   -- nothing is left to read, or what is left begins with no record
-  pub ran-all : (at : ℕ) (ys : List Block) (new more : List Line) → length bs ≤ at → more ≡ new → Ran at ys new → Ended ys more
-  ran-all at ys new more l d c =
+  pub ran_all : (at : ℕ) (ys : List Block) (new more : List Line) → length bs ≤ at → more ≡ new → Ran at ys new → Ended ys more
+  ran_all at ys new more l d c =
       let p = ap records (drop_all at bs l) in
       record {
         list = ap (list_after t w area ys) (sym p) ∙ c.list;
         shown = d ∙ sym (append-nil new) ∙ ap (λ rs. new ++ lines_of t w area ys rs) (sym p) ∙ c.shown;
       }
 
-  pub ran-stopped : (at n : ℕ) (ys : List Block) (new more : List Line) (f : Fault) (k m : ℕ) → at < length bs → Err f ≡ record_answer (record_of (drop at bs)) n → k ≡ number_of f.refusal → m ≡ length ys → more ≡ new ++ Refused k m ∷ [] → Ran at ys new → Ended ys more
-  ran-stopped at n ys new more f k m l h a b d c =
-      let q = answer-none (record_of (drop at bs)) n f h in
-      let p = records-stop (drop at bs) q.0 (simp length-drop (omega arith)) in
+  pub ran_stopped : (at n : ℕ) (ys : List Block) (new more : List Line) (f : Fault) (k m : ℕ) → at < length bs → Err f ≡ record_answer (record_of (drop at bs)) n → k ≡ number_of f.refusal → m ≡ length ys → more ≡ new ++ Refused k m ∷ [] → Ran at ys new → Ended ys more
+  ran_stopped at n ys new more f k m l h a b d c =
+      let q = answer_none (record_of (drop at bs)) n f h in
+      let p = records_stop (drop at bs) q.0 (simp length-drop (omega arith)) in
       record {
         list = ap (list_after t w area ys) (sym p) ∙ c.list;
         shown =
@@ -159,7 +159,7 @@ module _ (t : List Block → Block → Bool) (w : List Block → List Slice) (ar
       }
 
 -- a record takes at least one byte, and lies within the input
-pub record-in : (bs : List ℕ) (at n m : ℕ) (r : Record Block) → Ok r ≡ record_answer (record_of (drop at bs)) n → m ≡ size_of r → at < length bs → (1 ≤ m) × (at + m ≤ length bs)
-record-in bs at n m r h e l =
-    let f = record-fits (drop at bs) r (answer-some (record_of (drop at bs)) n r h) in
+pub record_in : (bs : List ℕ) (at n m : ℕ) (r : Record Block) → Ok r ≡ record_answer (record_of (drop at bs)) n → m ≡ size_of r → at < length bs → (1 ≤ m) × (at + m ≤ length bs)
+record_in bs at n m r h e l =
+    let f = record_fits (drop at bs) r (answer_some (record_of (drop at bs)) n r h) in
     (omega (arith, size-least r), omega (arith, f, length-drop at bs))

@@ -7,19 +7,19 @@ use Rattle.card.specs.Records.{push_of, record_of, record_by}
 use Rattle.card.specs.declared.record.Record.TheVariants.{Push}
 
 module _ (bs : List ℕ) (at : ℕ) where
-  pub record-at : at < length bs → record_of (drop at bs) ≡ record_by (get_or bs at 0) (drop (at + 1) bs)
-  record-at h = ap record_of (drop_more bs at 0 h)
+  pub record_at : at < length bs → record_of (drop at bs) ≡ record_by (get_or bs at 0) (drop (at + 1) bs)
+  record_at h = ap record_of (drop_more bs at 0 h)
 
-  pub record-past : length bs ≤ at → record_of (drop at bs) ≡ None
-  record-past h = ap record_of (drop_all at bs h)
+  pub record_past : length bs ≤ at → record_of (drop at bs) ≡ None
+  record_past h = ap record_of (drop_all at bs h)
 
-  pub push-cut : length bs < at + 10 → push_of (drop at bs) ≡ None
-  push-cut h =
+  pub push_cut : length bs < at + 10 → push_of (drop at bs) ≡ None
+  push_cut h =
       let l : length (drop at bs) < 10 = simp length-drop (omega arith) in
       rw (lt-leb 10 (length (drop at bs)) l)
 
-  pub push-bad : 1 < get_or bs (at + 8) 0 → push_of (drop at bs) ≡ None
-  push-bad h =
+  pub push_bad : 1 < get_or bs (at + 8) 0 → push_of (drop at bs) ≡ None
+  push_bad h =
       let l : 1 < get_or (drop at bs) 8 0 = rw (get_or-drop at bs 8 0) h in
       rw (and_right (leb 10 (length (drop at bs))) (leb (get_or (drop at bs) 8 0) 1) (lt-leb _ _ l))
 

@@ -7,22 +7,22 @@ use Rattle.card.specs.declared.record.Record.{Record}
 use Rattle.card.specs.declared.record.Record.TheVariants.{Clear, Image}
 
 module _ {E : Type 0} (t : List E → E → Bool) (w : List E → List Slice) (area : List ℕ) where
-  list-joined : (xs : List E) (rs ss : List (Option (Record E))) → AllRead rs → list_after t w area xs (rs ++ ss) ≡ list_after t w area (list_after t w area xs rs) ss
-  list-joined xs [] ss h = refl
-  list-joined xs (Some r ∷ rs) ss h = list-joined (after t w area xs r) rs ss h.1
-  list-joined xs (None ∷ rs) ss h = absurd (false≢true h.0)
+  list_joined : (xs : List E) (rs ss : List (Option (Record E))) → AllRead rs → list_after t w area xs (rs ++ ss) ≡ list_after t w area (list_after t w area xs rs) ss
+  list_joined xs [] ss h = refl
+  list_joined xs (Some r ∷ rs) ss h = list_joined (after t w area xs r) rs ss h.1
+  list_joined xs (None ∷ rs) ss h = absurd (false≢true h.0)
 
-  lines-joined : (xs : List E) (rs ss : List (Option (Record E))) → AllRead rs → lines_of t w area xs (rs ++ ss) ≡ lines_of t w area xs rs ++ lines_of t w area (list_after t w area xs rs) ss
-  lines-joined xs [] ss h = refl
-  lines-joined xs (Some r ∷ rs) ss h =
-      ap (λ ls. answer t w area xs r ++ ls) (lines-joined (after t w area xs r) rs ss h.1)
+  lines_joined : (xs : List E) (rs ss : List (Option (Record E))) → AllRead rs → lines_of t w area xs (rs ++ ss) ≡ lines_of t w area xs rs ++ lines_of t w area (list_after t w area xs rs) ss
+  lines_joined xs [] ss h = refl
+  lines_joined xs (Some r ∷ rs) ss h =
+      ap (λ ls. answer t w area xs r ++ ls) (lines_joined (after t w area xs r) rs ss h.1)
       ∙ sym (append_assoc (answer t w area xs r) (lines_of t w area (after t w area xs r) rs) (lines_of t w area (list_after t w area (after t w area xs r) rs) ss))
-  lines-joined xs (None ∷ rs) ss h = absurd (false≢true h.0)
+  lines_joined xs (None ∷ rs) ss h = absurd (false≢true h.0)
 
   pub runs : Runs t w area
   runs = record {
-    goes_on = list-joined;
-    cleared = λ xs rs ss. list-joined xs rs (Some Clear ∷ ss);
-    shown = λ xs rs ss. lines-joined xs rs (Some Image ∷ ss);
-    ended = λ xs rs ss. lines-joined xs rs (None ∷ ss);
+    goes_on = list_joined;
+    cleared = λ xs rs ss. list_joined xs rs (Some Clear ∷ ss);
+    shown = λ xs rs ss. lines_joined xs rs (Some Image ∷ ss);
+    ended = λ xs rs ss. lines_joined xs rs (None ∷ ss);
   }

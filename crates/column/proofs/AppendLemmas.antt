@@ -12,15 +12,15 @@ use Rattle.column.specs.Column.{Areas, element, push_answer, pushed, taken, rang
 
 module _ {E : Type 0} where
   -- an element that is there, and one that is not
-  element-there : (xs : List E) (i : ℕ) (x : E) → element xs i ≡ Ok x → (i < length xs) × (get_or xs i x ≡ x)
-  element-there [] i x h = let z : ◌≡◌ {A = ℕ} 0 1 = cc in absurd (omega arith)
-  element-there (y ∷ xs) zero x h = (omega arith, cc)
-  element-there (y ∷ xs) (suc i) x h = let p = element-there xs i x h in (omega arith, p.1)
+  element_there : (xs : List E) (i : ℕ) (x : E) → element xs i ≡ Ok x → (i < length xs) × (get_or xs i x ≡ x)
+  element_there [] i x h = let z : ◌≡◌ {A = ℕ} 0 1 = cc in absurd (omega arith)
+  element_there (y ∷ xs) zero x h = (omega arith, cc)
+  element_there (y ∷ xs) (suc i) x h = let p = element_there xs i x h in (omega arith, p.1)
 
-  pub element-absent : (xs : List E) (i : ℕ) (e : Fault) → element xs i ≡ Err e → length xs ≤ i
-  element-absent [] i e h = omega arith
-  element-absent (x ∷ xs) zero e h = let z : ◌≡◌ {A = ℕ} 0 1 = cc in absurd (omega arith)
-  element-absent (x ∷ xs) (suc i) e h = omega (arith, element-absent xs i e h)
+  pub element_absent : (xs : List E) (i : ℕ) (e : Fault) → element xs i ≡ Err e → length xs ≤ i
+  element_absent [] i e h = omega arith
+  element_absent (x ∷ xs) zero e h = let z : ◌≡◌ {A = ℕ} 0 1 = cc in absurd (omega arith)
+  element_absent (x ∷ xs) (suc i) e h = omega (arith, element_absent xs i e h)
 
   element-take : (n : ℕ) (xs : List E) (i : ℕ) → i < n → element (take n xs) i ≡ element xs i
   element-take zero xs i h = absurd (omega arith)
@@ -45,9 +45,9 @@ is_err true = refl
 is_err false = refl
 
 module _ {E : Type 0} (t : List E → E → Bool) where
-  taken-le : (xs ys : List E) → taken t xs ys ≤ length ys
-  taken-le xs [] = omega arith
-  taken-le xs (y ∷ ys) = cond_both (t xs y) (suc (taken t (xs ++ y ∷ []) ys)) 0 (λ n. n ≤ suc (length ys)) (λ e. omega (arith, taken-le (xs ++ y ∷ []) ys)) (λ e. omega arith)
+  taken_le : (xs ys : List E) → taken t xs ys ≤ length ys
+  taken_le xs [] = omega arith
+  taken_le xs (y ∷ ys) = cond_both (t xs y) (suc (taken t (xs ++ y ∷ []) ys)) 0 (λ n. n ≤ suc (length ys)) (λ e. omega (arith, taken_le (xs ++ y ∷ []) ys)) (λ e. omega arith)
 
   -- after the first n, if these are taken
   taken-rest : (xs ys : List E) (n : ℕ) → n ≤ taken t xs ys → taken t xs ys ≡ n + taken t (xs ++ take n ys) (drop n ys)
@@ -60,7 +60,7 @@ module _ {E : Type 0} (t : List E → E → Bool) where
 
   taken_next : (xs ys : List E) (n : ℕ) (y : E) → element ys n ≡ Ok y → n ≤ taken t xs ys → taken t xs ys ≡ n + cond (t (xs ++ take n ys) y) (suc (taken t ((xs ++ take n ys) ++ y ∷ []) (drop (n + 1) ys))) 0
   taken_next xs ys n y e h =
-      let q = element-there ys n y e in
+      let q = element_there ys n y e in
       taken-rest xs ys n h ∙ rw (drop_more ys n y q.0, q.1)
 
 -- The list zs is xs with the elements at places a to i - 1 of a source put after it, each of them taken. No place is
@@ -88,25 +88,25 @@ module _ {E : Type 0} (f : Areas → List E → E → Bool) (A : Areas) (xs src 
       added_more k =
           let w : f A zs y ≡ true = not-false (f A zs y) (sym answered ∙ k) in
           let d : i + 1 - a ≡ i - a + 1 = omega arith in
-          let o = element-there (between a b src) (i - a) y there in
+          let o = element_there (between a b src) (i - a) y there in
           rw d (
             rw (take_more (between a b src) (i - a) y o.0, o.1, ← append_assoc, ← p.0) (u ∙ rw (s, w)),
             omega (arith, rw w at next),
           )
 
-      pub added-stopped : is_refusal r ≡ true → (Err (refuse NotTaken (i - a)) ≡ range_answer (f A) xs src a b) × (us ≡ range_appended (f A) xs src a b)
-      added-stopped k =
+      pub added_stopped : is_refusal r ≡ true → (Err (refuse NotTaken (i - a)) ≡ range_answer (f A) xs src a b) × (us ≡ range_appended (f A) xs src a b)
+      added_stopped k =
           let w : f A zs y ≡ false = not-true (f A zs y) (sym answered ∙ k) in
           let n : taken (f A) xs (between a b src) ≡ i - a = omega (arith, rw w at next) in
-          let o = element-there (between a b src) (i - a) y there in
+          let o = element_there (between a b src) (i - a) y there in
           rw (le-leb b (length src) l, n) (
             rw (ne_eqb (i - a) (length (between a b src)) (λ g. omega (arith, o.0))),
             u ∙ rw (s, w) p.0,
           )
 
-    pub added-all : b ≤ i → (Ok tt ≡ range_answer (f A) xs src a b) × (zs ≡ range_appended (f A) xs src a b)
-    added-all m =
-        let n : taken (f A) xs (between a b src) ≡ length (between a b src) = omega (arith, taken-le (f A) xs (between a b src), length-between src a b l) in
+    pub added_all : b ≤ i → (Ok tt ≡ range_answer (f A) xs src a b) × (zs ≡ range_appended (f A) xs src a b)
+    added_all m =
+        let n : taken (f A) xs (between a b src) ≡ length (between a b src) = omega (arith, taken_le (f A) xs (between a b src), length-between src a b l) in
         rw (le-leb b (length src) l, n) (
           rw (eq-eqb (length (between a b src)) (length (between a b src)) refl),
           rw (take_all (length (between a b src)) (between a b src) (omega arith)) (rw (take_all (i - a) (between a b src) (omega (arith, length-between src a b l))) at p.0),

@@ -6,21 +6,21 @@ use Rattle.area.specs.declared.fault.Refusal.TheVariants.{OutOfRange}
 use Rattle.column.specs.Column.{element}
 use Rattle.column.specs.Kind.{every}
 
-pub element-at : {E : Type 0} (xs : List E) (i : ℕ) (d : E) → i < length xs → element xs i ≡ Ok (get_or xs i d)
-element-at [] i d h = absurd (omega arith)
-element-at (x ∷ xs) zero d h = refl
-element-at (x ∷ xs) (suc i) d h = element-at xs i d (omega arith)
+pub element_at_lem : {E : Type 0} (xs : List E) (i : ℕ) (d : E) → i < length xs → element xs i ≡ Ok (get_or xs i d)
+element_at_lem [] i d h = absurd (omega arith)
+element_at_lem (x ∷ xs) zero d h = refl
+element_at_lem (x ∷ xs) (suc i) d h = element_at_lem xs i d (omega arith)
 
-pub element-past : {E : Type 0} (xs : List E) (i : ℕ) → length xs ≤ i → element xs i ≡ Err (refuse OutOfRange 0)
-element-past [] i h = refl
-element-past (x ∷ xs) zero h = absurd (omega arith)
-element-past (x ∷ xs) (suc i) h = element-past xs i (omega arith)
+pub element_past : {E : Type 0} (xs : List E) (i : ℕ) → length xs ≤ i → element xs i ≡ Err (refuse OutOfRange 0)
+element_past [] i h = refl
+element_past (x ∷ xs) zero h = absurd (omega arith)
+element_past (x ∷ xs) (suc i) h = element_past xs i (omega arith)
 
 -- an element that was found
-pub element-found : {E : Type 0} (xs : List E) (i : ℕ) (x d : E) → Ok x ≡ element xs i → (i < length xs) × (get_or xs i d ≡ x)
-element-found [] i x d e = let z : ◌≡◌ {A = ℕ} 0 1 = cc in absurd (omega arith)
-element-found (y ∷ xs) zero x d e = (omega arith, cc)
-element-found (y ∷ xs) (suc i) x d e = let r = element-found xs i x d e in (omega arith, r.1)
+pub element_found : {E : Type 0} (xs : List E) (i : ℕ) (x d : E) → Ok x ≡ element xs i → (i < length xs) × (get_or xs i d ≡ x)
+element_found [] i x d e = let z : ◌≡◌ {A = ℕ} 0 1 = cc in absurd (omega arith)
+element_found (y ∷ xs) zero x d e = (omega arith, cc)
+element_found (y ∷ xs) (suc i) x d e = let r = element_found xs i x d e in (omega arith, r.1)
 
 pub every_append : {E : Type 0} (p : E → Bool) (xs ys : List E) → every p xs ≡ true → every p ys ≡ true → every p (xs ++ ys) ≡ true
 every_append p [] ys h k = k

@@ -18,34 +18,34 @@ abbrev word_in : ℕ → Result ℕ Fault → Slice → Result ℕ Fault
 word_in i r s = elim r [ Ok n ↦ element s.words i | Err f ↦ Err f ]
 
 -- past all slices
-pub slice_length-past : (ss : List Slice) (k : ℕ) → min (length ss) CAP ≤ k → slice_length ss k ≡ Err (refuse OutOfRange 0)
-slice_length-past ss k h = ap (λ there. length_of there (slot ss k)) (le-ltb k (min (length ss) CAP) h)
+pub slice_length_past : (ss : List Slice) (k : ℕ) → min (length ss) CAP ≤ k → slice_length ss k ≡ Err (refuse OutOfRange 0)
+slice_length_past ss k h = ap (λ there. length_of there (slot ss k)) (le-ltb k (min (length ss) CAP) h)
 
-pub word_in_slice-past : (ss : List Slice) (k i : ℕ) → min (length ss) CAP ≤ k → word_in_slice ss k i ≡ Err (refuse OutOfRange 0)
-word_in_slice-past ss k i h = ap (λ r. word_in i r (slot ss k)) (slice_length-past ss k h)
+pub word_in_slice_past : (ss : List Slice) (k i : ℕ) → min (length ss) CAP ≤ k → word_in_slice ss k i ≡ Err (refuse OutOfRange 0)
+word_in_slice_past ss k i h = ap (λ r. word_in i r (slot ss k)) (slice_length_past ss k h)
 
 module _ (xs ys : List Slice) (k : ℕ) where
-  slot-left : k < length xs → slot (xs ++ ys) k ≡ slot xs k
-  slot-left h = get_or_append_left xs ys _ k h
+  slot_left : k < length xs → slot (xs ++ ys) k ≡ slot xs k
+  slot_left h = get_or_append_left xs ys _ k h
 
-  slot-right : length xs ≤ k → slot (xs ++ ys) k ≡ slot ys (k - length xs)
-  slot-right h = get_or-append_right xs ys (length xs) k _ refl h
+  slot_right : length xs ≤ k → slot (xs ++ ys) k ≡ slot ys (k - length xs)
+  slot_right h = get_or-append_right xs ys (length xs) k _ refl h
 
-  there-left : k < length xs → ltb k (min (length (xs ++ ys)) CAP) ≡ ltb k (min (length xs) CAP)
-  there-left h = rw length-append (grind (arith, nat_tests))
+  there_left : k < length xs → ltb k (min (length (xs ++ ys)) CAP) ≡ ltb k (min (length xs) CAP)
+  there_left h = rw length-append (grind (arith, nat_tests))
 
-  there-right : length xs ≤ k → (CAP ≤ k → length xs + length ys ≤ k) → ltb k (min (length (xs ++ ys)) CAP) ≡ ltb (k - length xs) (min (length ys) CAP)
-  there-right h past = rw length-append (grind (arith, nat_tests))
+  there_right : length xs ≤ k → (CAP ≤ k → length xs + length ys ≤ k) → ltb k (min (length (xs ++ ys)) CAP) ≡ ltb (k - length xs) (min (length ys) CAP)
+  there_right h past = rw length-append (grind (arith, nat_tests))
 
-  pub slice_length-left : k < length xs → slice_length (xs ++ ys) k ≡ slice_length xs k
-  slice_length-left h = ap₂ length_of (there-left h) (slot-left h)
+  pub slice_length_left : k < length xs → slice_length (xs ++ ys) k ≡ slice_length xs k
+  slice_length_left h = ap₂ length_of (there_left h) (slot_left h)
 
   -- at a place below CAP, or past all slices
-  pub slice_length-right : length xs ≤ k → (CAP ≤ k → length xs + length ys ≤ k) → slice_length (xs ++ ys) k ≡ slice_length ys (k - length xs)
-  slice_length-right h past = ap₂ length_of (there-right h past) (slot-right h)
+  pub slice_length_right : length xs ≤ k → (CAP ≤ k → length xs + length ys ≤ k) → slice_length (xs ++ ys) k ≡ slice_length ys (k - length xs)
+  slice_length_right h past = ap₂ length_of (there_right h past) (slot_right h)
 
-  pub word_in_slice-left : (i : ℕ) → k < length xs → word_in_slice (xs ++ ys) k i ≡ word_in_slice xs k i
-  word_in_slice-left i h = ap₂ (word_in i) (slice_length-left h) (slot-left h)
+  pub word_in_slice_left : (i : ℕ) → k < length xs → word_in_slice (xs ++ ys) k i ≡ word_in_slice xs k i
+  word_in_slice_left i h = ap₂ (word_in i) (slice_length_left h) (slot_left h)
 
-  pub word_in_slice-right : (i : ℕ) → length xs ≤ k → (CAP ≤ k → length xs + length ys ≤ k) → word_in_slice (xs ++ ys) k i ≡ word_in_slice ys (k - length xs) i
-  word_in_slice-right i h past = ap₂ (word_in i) (slice_length-right h past) (slot-right h)
+  pub word_in_slice_right : (i : ℕ) → length xs ≤ k → (CAP ≤ k → length xs + length ys ≤ k) → word_in_slice (xs ++ ys) k i ≡ word_in_slice ys (k - length xs) i
+  word_in_slice_right i h past = ap₂ (word_in i) (slice_length_right h past) (slot_right h)

@@ -8,62 +8,62 @@ use Rattle.std.proofs.ByRecursion.{All-weaker}
 use Rattle.std.proofs.lemmas.Bool.{lt-ltb, ltb-true, le-leb, leb-true, eqb-true}
 use Rattle.area.specs.Digits.{number, chunks}
 use Rattle.area.specs.Slice.{Slice, WellFormed, ZeroPadded, of_bytes, of_words, contents, words_for, weight}
-use Rattle.area.proofs.DigitLemmas.{all-chunks, all-in-chunks, all-joined, chunks-joined-all, digits-number-all, digits-under, length-chunks, length_digits, length-joined, number_digits, number_lt}
-use Rattle.area.proofs.SliceLemmas.{contents-of_bytes, contents-under, length-contents, length-pack, of_bytes-formed, of_bytes-padded, of_bytes-spill}
+use Rattle.area.proofs.DigitLemmas.{all_chunks, all_in_chunks, all_joined, chunks_joined_all, digits-number_all, digits_under, length-chunks, length_digits, length_joined, number_digits, number_lt}
+use Rattle.area.proofs.SliceLemmas.{contents-of_bytes, contents_under, length-contents, length-pack, of_bytes-formed, of_bytes_padded, of_bytes-spill}
 use Rattle.column.specs.Element.{Bytes, Codec, OneToOne, unsigned}
 use Rattle.column.specs.Kind.{Accepted, Held, L, Laws, every, reads, slot}
 use Rattle.column.specs.Run.{elements, run_format, word_run}
 use Rattle.column.specs.KindLemmas.{all_from_every, every_from_all, in_bounds, passed, slot-formed}
 
-pub unsigned-one-to-one : (n : ℕ) → 0 < n → OneToOne (λ x. ltb x (256 ^ n)) (unsigned n)
-unsigned-one-to-one n p = record {
+pub unsigned_one_to_one : (n : ℕ) → 0 < n → OneToOne (λ x. ltb x (256 ^ n)) (unsigned n)
+unsigned_one_to_one n p = record {
   positive = p;
-  string = λ x h. (length_digits 256 n x, digits-under 256 n x (lit< tt));
+  string = λ x h. (length_digits 256 n x, digits_under 256 n x (lit< tt));
   back = λ x h. number_digits 256 n x (lit< tt) (ltb-true x (256 ^ n) h);
-  forth = λ bs l h. (digits-number-all 256 bs n h l, lt-ltb (number 256 bs) (256 ^ n) (rw l at (number_lt 256 bs h)));
+  forth = λ bs l h. (digits-number_all 256 bs n h l, lt-ltb (number 256 bs) (256 ^ n) (rw l at (number_lt 256 bs h)));
 }
 
 module _ {E : Type 0} (fits : E → Bool) (C : Codec E) (O : OneToOne fits C) where
   -- the byte strings of elements that fit
   pub strings : (xs : List E) → every fits xs ≡ true → Bytes (flat_map C.bytes xs)
-  strings xs h = all-joined (λ b. b < 256) C.bytes xs
+  strings xs h = all_joined (λ b. b < 256) C.bytes xs
       (All-weaker (λ x. fits x ≡ true) (λ x. Bytes (C.bytes x)) (λ x f. (O.string x f).1) xs (all_from_every fits xs h))
 
   pub sizes : (xs : List E) → every fits xs ≡ true → AllByRecursion (λ x. length (C.bytes x) ≡ C.size) xs
   sizes xs h = All-weaker (λ x. fits x ≡ true) (λ x. length (C.bytes x) ≡ C.size) (λ x f. (O.string x f).0) xs (all_from_every fits xs h)
 
-  pub length-strings : (xs : List E) → every fits xs ≡ true → length (flat_map C.bytes xs) ≡ C.size * length xs
-  length-strings xs h = length-joined C.bytes C.size xs (sizes xs h)
+  pub length_strings : (xs : List E) → every fits xs ≡ true → length (flat_map C.bytes xs) ≡ C.size * length xs
+  length_strings xs h = length_joined C.bytes C.size xs (sizes xs h)
 
   values : (xs : List E) → AllByRecursion (λ x. fits x ≡ true) xs → map C.value (map C.bytes xs) ≡ xs
   values [] h = refl
   values (x ∷ xs) h = rw (O.back x h.0, values xs h.1)
 
   count : (xs : List E) → every fits xs ≡ true → length (flat_map C.bytes xs) / C.size ≡ length xs
-  count xs h = rw (length-strings xs h) (mul-div_cancel_left (length xs) O.positive)
+  count xs h = rw (length_strings xs h) (mul-div_cancel_left (length xs) O.positive)
 
   elements-written : (xs : List E) → every fits xs ≡ true → elements C (of_bytes (flat_map C.bytes xs)) ≡ xs
   elements-written xs h =
-      rw (contents-of_bytes (flat_map C.bytes xs) (strings xs h), count xs h, chunks-joined-all C.bytes C.size xs (sizes xs h))
+      rw (contents-of_bytes (flat_map C.bytes xs) (strings xs h), count xs h, chunks_joined_all C.bytes C.size xs (sizes xs h))
       (values xs (all_from_every fits xs h))
 
   return : (xs : List E) → Held fits xs → ((run_format C).sized ((run_format C).writing xs) ≡ None) × ((run_format C).reading ((run_format C).writing xs) ≡ reads xs)
   return xs (h, l) = (
-    rw (length-strings xs h, mul-mod_right) refl,
+    rw (length_strings xs h, mul-mod_right) refl,
     rw (elements-written xs h, count xs h, le-leb (length xs) L l) refl,
   )
 
   -- what a well-formed slice with no refusal holds
-  fit-chunks : (cs : List (List ℕ)) → AllByRecursion (λ c. length c ≡ C.size) cs → AllByRecursion Bytes cs → AllByRecursion (λ x. fits x ≡ true) (map C.value cs)
-  fit-chunks [] k h = tt
-  fit-chunks (c ∷ cs) k h = ((O.forth c k.0 h.0).1, fit-chunks cs k.1 h.1)
+  fit_chunks : (cs : List (List ℕ)) → AllByRecursion (λ c. length c ≡ C.size) cs → AllByRecursion Bytes cs → AllByRecursion (λ x. fits x ≡ true) (map C.value cs)
+  fit_chunks [] k h = tt
+  fit_chunks (c ∷ cs) k h = ((O.forth c k.0 h.0).1, fit_chunks cs k.1 h.1)
 
-  elements-fit : (s : Slice) → WellFormed s → every fits (elements C s) ≡ true
-  elements-fit s w =
+  elements_fit : (s : Slice) → WellFormed s → every fits (elements C s) ≡ true
+  elements_fit s w =
       let n : ℕ = s.bytes / C.size in
       let l : C.size * n ≤ length (contents s) = rw (length-contents s w) (mul-div-le s.bytes C.size) in
       every_from_all fits (elements C s)
-      (fit-chunks (chunks C.size n (contents s)) (all-chunks C.size n (contents s) l) (all-in-chunks (λ b. b < 256) C.size n (contents s) (contents-under s)))
+      (fit_chunks (chunks C.size n (contents s)) (all_chunks C.size n (contents s) l) (all_in_chunks (λ b. b < 256) C.size n (contents s) (contents_under s)))
 
   pub length-elements : (s : Slice) → length (elements C s) ≡ s.bytes / C.size
   length-elements s = let n : ℕ = s.bytes / C.size in length-map (chunks C.size n (contents s)) C.value ∙ length-chunks C.size n (contents s)
@@ -81,7 +81,7 @@ module _ {E : Type 0} (fits : E → Bool) (C : Codec E) (O : OneToOne fits C) wh
       let few : s.bytes / C.size ≤ L = leb-true (s.bytes / C.size) L r.0 in
       let exact : s.bytes % C.size ≡ 0 = eqb-true (s.bytes % C.size) 0 (passed (s.bytes % C.size == 0) 0 a.fitting) in
       rw (← r.1) (record {
-        fit = elements-fit s a.formed.0;
+        fit = elements_fit s a.formed.0;
         few = rw (length-elements s) few;
         whole = rw (length-elements s) (omega (arith, div-add-mod s.bytes C.size));
       })
@@ -90,12 +90,12 @@ module _ {E : Type 0} (fits : E → Bool) (C : Codec E) (O : OneToOne fits C) wh
   least : (ss : List Slice) (xs : List E) → Accepted (run_format C) ss xs → weight ((run_format C).writing xs) ≤ weight ss
   least ss xs a =
       let h = held_by ss xs a in
-      omega (arith, length-pack (flat_map C.bytes xs), length-strings xs h.fit)
+      omega (arith, length-pack (flat_map C.bytes xs), length_strings xs h.fit)
 
   given : (ss : List Slice) (xs : List E) → Accepted (run_format C) ss xs → Accepted (run_format C) ((run_format C).giving ss) xs × AllByRecursion ZeroPadded ((run_format C).giving ss)
   given ss xs a =
       let s : Slice = slot ss 0 in
-      let u = contents-under s in
+      let u = contents_under s in
       let l = length-contents s (slot-formed ss 0 (omega (arith, a.count)) a.formed) in (
         record {
           count = refl;
@@ -103,12 +103,12 @@ module _ {E : Type 0} (fits : E → Bool) (C : Codec E) (O : OneToOne fits C) wh
           fitting = rw l a.fitting;
           reading = rw (contents-of_bytes (contents s) u, l) a.reading;
         },
-        (of_bytes-padded (contents s) u, tt),
+        (of_bytes_padded (contents s) u, tt),
       )
 
-  pub run-laws : Laws fits (run_format C)
-  run-laws = record {
-    shape = λ xs h. (refl, (of_bytes-formed (flat_map C.bytes xs) (strings xs h.0), tt), (of_bytes-padded (flat_map C.bytes xs) (strings xs h.0), tt));
+  pub run_laws : Laws fits (run_format C)
+  run_laws = record {
+    shape = λ xs h. (refl, (of_bytes-formed (flat_map C.bytes xs) (strings xs h.0), tt), (of_bytes_padded (flat_map C.bytes xs) (strings xs h.0), tt));
     return = return;
     sound = λ ss xs a. let h = held_by ss xs a in (h.fit, h.few);
     least = least;

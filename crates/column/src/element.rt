@@ -2,7 +2,7 @@
 ghost use Rattle.std.specs.Prelude.{◌≡◌, ℕ, ◌^◌, Bool, true, ◌&&◌, nat_lt, slice_index};
 ghost use Rattle.std.proofs.Common.{lit<};
 ghost use Rattle.column.specs.Element.{Codec, OneToOne, unsigned};
-ghost use Rattle.column.specs.RunLaws.{unsigned-one-to-one};
+ghost use Rattle.column.specs.RunLaws.{unsigned_one_to_one};
 
 // A number of the logic has no width: `fits` says which values the type has.
 pub trait Value: Copy {
@@ -72,7 +72,7 @@ pub trait Element: Value {
 impl Element for u64 {
     ghost codec = { unsigned 8 };
 
-    ghost one_to_one = { unsigned-one-to-one 8 (lit< tt) };
+    ghost one_to_one = { unsigned_one_to_one 8 (lit< tt) };
 
     fn size() -> usize {
         (u64::BITS / 8) as usize
@@ -89,7 +89,7 @@ impl Element for u64 {
 impl Element for u8 {
     ghost codec = { unsigned 1 };
 
-    ghost one_to_one = { unsigned-one-to-one 1 (lit< tt) };
+    ghost one_to_one = { unsigned_one_to_one 1 (lit< tt) };
 
     fn size() -> usize {
         (u8::BITS / 8) as usize

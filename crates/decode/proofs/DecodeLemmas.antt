@@ -9,10 +9,10 @@ use Rattle.area.specs.declared.fault.Fault.{Fault}
 use Rattle.area.specs.declared.fault.Refusal.{Refusal}
 use Rattle.area.specs.declared.fault.Refusal.TheVariants.{ByteLength, NoWord, FirstWord, IndexCut, SliceCount, EndOutside, EndBeforeStart, OutOfRange}
 use Rattle.storage.specs.Store.{word_at}
-use Rattle.storage.proofs.StoreLemmas.{word_at-some}
+use Rattle.storage.proofs.StoreLemmas.{word_at_some}
 use Rattle.column.specs.Column.{element}
 use Rattle.column.specs.Kind.{CAP, slot}
-use Rattle.column.proofs.ColumnLemmas.{element-at, element-past}
+use Rattle.column.proofs.ColumnLemmas.{element_at_lem, element_past}
 use Rattle.decode.specs.declared.span.Span.{Span}
 use Rattle.decode.specs.Decode.{Inside, ask, count_stands, ends_fault, first, index_answer, index_fault, or_fault, slice_at, slice_ends, slice_in, slices_of, slices_to, span_answer, span_of, structure_fault}
 
@@ -22,9 +22,9 @@ module _ {X : Type 0} where
   or_ok None x y h = (refl, cc)
   or_ok (Some f) x y h = let z : ◌≡◌ {A = ℕ} 0 1 = cc in absurd (omega arith)
 
-  pub or-err : (p : Option Fault) (x : X) (e : Fault) → or_fault p x ≡ Err e → p ≡ Some e
-  or-err None x e h = let z : ◌≡◌ {A = ℕ} 0 1 = cc in absurd (omega arith)
-  or-err (Some f) x e h = cc
+  pub or_err : (p : Option Fault) (x : X) (e : Fault) → or_fault p x ≡ Err e → p ≡ Some e
+  or_err None x e h = let z : ◌≡◌ {A = ℕ} 0 1 = cc in absurd (omega arith)
+  or_err (Some f) x e h = cc
 
 -- one question: passed with all after it, or refused whatever is asked after it
 pub ask-passed : (b : Bool) (q : Refusal) (k : ℕ) (next : Option Fault) → ask b q k next ≡ None → (b ≡ true) × (next ≡ None)
@@ -35,12 +35,12 @@ ask-passed false q k next h = let z : ◌≡◌ {A = ℕ} 0 1 = cc in absurd (om
 abbrev four : Bool → Bool → Bool → Bool → Option Fault → Option Fault
 four a b c d next = ask a ByteLength 0 (ask b NoWord 0 (ask c FirstWord 0 (ask d IndexCut 0 next)))
 
-four-refused : (a b c d : Bool) (next : Option Fault) (e : Fault) → four a b c d None ≡ Some e → four a b c d next ≡ Some e
-four-refused false b c d next e h = h
-four-refused true false c d next e h = h
-four-refused true true false d next e h = h
-four-refused true true true false next e h = h
-four-refused true true true true next e h = let z : ◌≡◌ {A = ℕ} 0 1 = cc in absurd (omega arith)
+four_refused : (a b c d : Bool) (next : Option Fault) (e : Fault) → four a b c d None ≡ Some e → four a b c d next ≡ Some e
+four_refused false b c d next e h = h
+four_refused true false c d next e h = h
+four_refused true true false d next e h = h
+four_refused true true true false next e h = h
+four_refused true true true true next e h = let z : ◌≡◌ {A = ℕ} 0 1 = cc in absurd (omega arith)
 
 -- an index that passes questions 1 to 4
 pub record Index (ws : List ℕ) : Type 0 where
@@ -78,10 +78,10 @@ module _ (ws : List ℕ) where
         le-leb (first ws / 8) (length ws) i.room,
       )
 
-  pub index-refused : (next : Option Fault) (e : Fault) → index_answer ws ≡ Err e → index_fault ws next ≡ Some e
-  index-refused next e h =
-      four-refused (leb (8 * length ws) 4294967288) (leb 1 (length ws)) (leb 8 (first ws) && eqb (first ws % 8) 0) (leb (first ws / 8) (length ws)) next e
-      (or-err (index_fault ws None) (first ws / 8 - 1) e h)
+  pub index_refused : (next : Option Fault) (e : Fault) → index_answer ws ≡ Err e → index_fault ws next ≡ Some e
+  index_refused next e h =
+      four_refused (leb (8 * length ws) 4294967288) (leb 1 (length ws)) (leb 8 (first ws) && eqb (first ws % 8) 0) (leb (first ws / 8) (length ws)) next e
+      (or_err (index_fault ws None) (first ws / 8 - 1) e h)
 
   pub index-counted : (n : ℕ) → index_answer ws ≡ Ok n → Index ws × (n ≡ first ws / 8 - 1)
   index-counted n h = let p = or_ok (index_fault ws None) (first ws / 8 - 1) n h in ((index-passed None p.0).0, p.1)
@@ -91,14 +91,14 @@ module _ (ws : List ℕ) where
   no_word h = rw (le-leb (8 * length ws) 4294967288 (omega arith), lt-leb 1 (length ws) (omega arith))
 
   module _ (s : length ws ≤ CAP) (l : 0 < length ws) where
-    pub bad-first : (8 ≤ first ws → first ws % 8 ≡ 0 → ⊥) → index_answer ws ≡ Err (refuse FirstWord 0)
-    bad-first h =
+    pub bad_first : (8 ≤ first ws → first ws % 8 ≡ 0 → ⊥) → index_answer ws ≡ Err (refuse FirstWord 0)
+    bad_first h =
         let t : (leb 8 (first ws) && eqb (first ws % 8) 0) ≡ false = grind (arith, nat_tests) in
         rw (le-leb (8 * length ws) 4294967288 (omega arith), le-leb 1 (length ws) l, t)
 
     module _ (a : 8 ≤ first ws) (b : first ws % 8 ≡ 0) where
-      pub index-cut : length ws < first ws / 8 → index_answer ws ≡ Err (refuse IndexCut 0)
-      index-cut h =
+      pub index_cut : length ws < first ws / 8 → index_answer ws ≡ Err (refuse IndexCut 0)
+      index_cut h =
           rw (
             le-leb (8 * length ws) 4294967288 (omega arith),
             le-leb 1 (length ws) l,
@@ -145,20 +145,20 @@ ends-within t k p (e ∷ es) (suc j) f m h =
 
 -- one slice after the other is asked
 module _ (t k p e : ℕ) (es : List ℕ) (h : k < length es) (i : get_or es k 0 ≡ e) where
-  next-end : ends_fault t k p (drop k es) ≡ ends_fault t k p (e ∷ drop (k + 1) es)
-  next-end = at_drop_more (ends_fault t k p) es k 0 h ∙ ap (λ x. ends_fault t k p (x ∷ drop (k + 1) es)) i
+  next_end : ends_fault t k p (drop k es) ≡ ends_fault t k p (e ∷ drop (k + 1) es)
+  next_end = at_drop_more (ends_fault t k p) es k 0 h ∙ ap (λ x. ends_fault t k p (x ∷ drop (k + 1) es)) i
 
-  pub ends-outside : t < e → ends_fault t k p (drop k es) ≡ Some (refuse EndOutside k)
-  ends-outside l = next-end ∙ rw (lt-leb e t l)
+  pub ends_outside : t < e → ends_fault t k p (drop k es) ≡ Some (refuse EndOutside k)
+  ends_outside l = next_end ∙ rw (lt-leb e t l)
 
-  pub ends-before : e ≤ t → e < p → ends_fault t k p (drop k es) ≡ Some (refuse EndBeforeStart k)
-  ends-before l m = next-end ∙ rw (le-leb e t l, lt-leb p e m)
+  pub ends_before : e ≤ t → e < p → ends_fault t k p (drop k es) ≡ Some (refuse EndBeforeStart k)
+  ends_before l m = next_end ∙ rw (le-leb e t l, lt-leb p e m)
 
-  pub ends-turn : (q : ℕ) → e ≤ t → p ≤ e → q ≡ round_up e → ends_fault t (k + 1) q (drop (k + 1) es) ≡ ends_fault t k p (drop k es)
-  ends-turn q l m r = rw (r, add-one) (sym (next-end ∙ rw (le-leb e t l, le-leb p e m, add-one)))
+  pub ends_turn : (q : ℕ) → e ≤ t → p ≤ e → q ≡ round_up e → ends_fault t (k + 1) q (drop (k + 1) es) ≡ ends_fault t k p (drop k es)
+  ends_turn q l m r = rw (r, add-one) (sym (next_end ∙ rw (le-leb e t l, le-leb p e m, add-one)))
 
-pub ends-all : (t k p : ℕ) (es : List ℕ) → length es ≤ k → ends_fault t k p (drop k es) ≡ None
-ends-all t k p es h = at_drop_all (ends_fault t k p) es k h
+pub ends_all : (t k p : ℕ) (es : List ℕ) → length es ≤ k → ends_fault t k p (drop k es) ≡ None
+ends_all t k p es h = at_drop_all (ends_fault t k p) es k h
 
 -- the first n words after word 0
 module _ (ws : List ℕ) (n : ℕ) where
@@ -169,7 +169,7 @@ module _ (ws : List ℕ) (n : ℕ) where
   front_at k h = get_or-take n (drop 1 ws) k 0 h ∙ (get_or-drop 1 ws k 0 ∙ ap (λ j. get_or ws j 0) (omega arith))
 
   pub front-word : (k e : ℕ) → k < n → Some e ≡ word_at ws (k + 1) → get_or (take n (drop 1 ws)) k 0 ≡ e
-  front-word k e h w = front_at k h ∙ (word_at-some ws (k + 1) e w).1
+  front-word k e h w = front_at k h ∙ (word_at_some ws (k + 1) e w).1
 
 -- words that pass the questions
 pub asked-passed : (m : Option ℕ) (ws : List ℕ) → structure_fault m ws ≡ None → Index ws × ((count_stands m (first ws / 8 - 1) ≡ true) × (ends_fault (8 * length ws) 0 (first ws) (slice_ends ws) ≡ None))
@@ -180,8 +180,8 @@ module _ (m : Option ℕ) (ws : List ℕ) (n : ℕ) (h : Ok n ≡ index_answer w
   pub index_short : length ws ≤ CAP
   index_short = let i = (index-counted ws n (sym h)).0 in omega arith
 
-  pub index-under : n < length ws
-  index-under = let i = index-counted ws n (sym h) in omega arith
+  pub index_under : n < length ws
+  index_under = let i = index-counted ws n (sym h) in omega arith
 
   ends_asked : count_stands m n ≡ true → structure_fault m ws ≡ ends_fault (8 * length ws) 0 (8 * suc n) (take n (drop 1 ws))
   ends_asked c =
@@ -192,26 +192,26 @@ module _ (m : Option ℕ) (ws : List ℕ) (n : ℕ) (h : Ok n ≡ index_answer w
   pub all_asked : count_stands m n ≡ true → ◌≡◌ {A = Result (Unit {0}) Fault} (Ok tt) (or_fault (ends_fault (8 * length ws) 0 (8 * suc n) (take n (drop 1 ws))) tt) → structure_fault m ws ≡ None
   all_asked c e = ends_asked c ∙ (or_ok _ tt tt (sym e)).0
 
-  pub ends-refused : (f : Fault) → count_stands m n ≡ true → ◌≡◌ {A = Result (Unit {0}) Fault} (Err f) (or_fault (ends_fault (8 * length ws) 0 (8 * suc n) (take n (drop 1 ws))) tt) → structure_fault m ws ≡ Some f
-  ends-refused f c e = ends_asked c ∙ or-err _ tt f (sym e)
+  pub ends_refused : (f : Fault) → count_stands m n ≡ true → ◌≡◌ {A = Result (Unit {0}) Fault} (Err f) (or_fault (ends_fault (8 * length ws) 0 (8 * suc n) (take n (drop 1 ws))) tt) → structure_fault m ws ≡ Some f
+  ends_refused f c e = ends_asked c ∙ or_err _ tt f (sym e)
 
-  pub count-refused : count_stands m n ≡ false → structure_fault m ws ≡ Some (refuse SliceCount 0)
-  count-refused c = let i = index-counted ws n (sym h) in index-asked ws _ i.0 ∙ rw (← i.1, c)
+  pub count_refused : count_stands m n ≡ false → structure_fault m ws ≡ Some (refuse SliceCount 0)
+  count_refused c = let i = index-counted ws n (sym h) in index-asked ws _ i.0 ∙ rw (← i.1, c)
 
-pub asked-uncounted : (m : Option ℕ) (ws : List ℕ) → structure_fault m ws ≡ None → structure_fault None ws ≡ None
-asked-uncounted m ws h = let p = asked-passed m ws h in index-asked ws _ p.0 ∙ p.1.1
+pub asked_uncounted : (m : Option ℕ) (ws : List ℕ) → structure_fault m ws ≡ None → structure_fault None ws ≡ None
+asked_uncounted m ws h = let p = asked-passed m ws h in index-asked ws _ p.0 ∙ p.1.1
 
 module _ (ws : List ℕ) (h : structure_fault None ws ≡ None) where
-  pub count-slices : length (slices_of ws) ≡ first ws / 8 - 1
-  count-slices =
+  pub count_slices : length (slices_of ws) ≡ first ws / 8 - 1
+  count_slices =
       let i = (asked-passed None ws h).0 in
       length-slices_to ws (first ws) (slice_ends ws) ∙ rw (length-take, length-drop) (omega arith)
 
-  pub slices-under : length (slices_of ws) < length ws
-  slices-under = let i = (asked-passed None ws h).0 in omega (arith, count-slices)
+  pub slices_under : length (slices_of ws) < length ws
+  slices_under = let i = (asked-passed None ws h).0 in omega (arith, count_slices)
 
-  pub span-past : (k : ℕ) → length (slices_of ws) ≤ k → span_answer ws k ≡ Err (refuse OutOfRange 0)
-  span-past k m = rw (le-ltb k (length (slices_of ws)) m)
+  pub span_past : (k : ℕ) → length (slices_of ws) ≤ k → span_answer ws k ≡ Err (refuse OutOfRange 0)
+  span_past k m = rw (le-ltb k (length (slices_of ws)) m)
 
   module _ (k : ℕ) (l : k < length (slices_of ws)) where
     place : k < length (slice_ends ws)
@@ -219,7 +219,7 @@ module _ (ws : List ℕ) (h : structure_fault None ws ≡ None) where
 
     start : (j : ℕ) → j ≤ length (slices_of ws) → get_or (first ws ∷ slice_ends ws) j 0 ≡ get_or ws j 0
     start zero m = refl
-    start (suc j) m = front_at ws (first ws / 8 - 1) j (omega (arith, count-slices)) ∙ ap (λ n. get_or ws n 0) (add-one j)
+    start (suc j) m = front_at ws (first ws / 8 - 1) j (omega (arith, count_slices)) ∙ ap (λ n. get_or ws n 0) (add-one j)
 
     end : get_or (slice_ends ws) k 0 ≡ get_or ws (suc k) 0
     end = start (suc k) (omega arith)
@@ -229,26 +229,26 @@ module _ (ws : List ℕ) (h : structure_fault None ws ≡ None) where
         let a = asked-passed None ws h in
         rw (start k (omega arith), end) at (ends-within (8 * length ws) 0 (first ws) (slice_ends ws) k a.1.1 a.0.whole place)
 
-    pub span-inside : Inside ws (span_of ws k)
-    span-inside = let i = (asked-passed None ws h).0 in let e = ends-between in record { within = omega arith; short = omega arith }
+    pub span_inside : Inside ws (span_of ws k)
+    span_inside = let i = (asked-passed None ws h).0 in let e = ends-between in record { within = omega arith; short = omega arith }
 
-    pub span-answer : (a b : ℕ) → a ≡ words_for (get_or ws k 0) → b ≡ get_or ws (suc k) 0 - round_up (get_or ws k 0) → Ok (record { from = a; bytes = b }) ≡ span_answer ws k
-    span-answer a b p q = rw (lt-ltb k (length (slices_of ws)) l, p, q)
+    pub span_answer_lem : (a b : ℕ) → a ≡ words_for (get_or ws k 0) → b ≡ get_or ws (suc k) 0 - round_up (get_or ws k 0) → Ok (record { from = a; bytes = b }) ≡ span_answer ws k
+    span_answer_lem a b p q = rw (lt-ltb k (length (slices_of ws)) l, p, q)
 
-    pub span-slice : slice_in ws (span_of ws k) ≡ slot (slices_of ws) k
-    span-slice =
+    pub span_slice : slice_in ws (span_of ws k) ≡ slot (slices_of ws) k
+    span_slice =
         let a = asked-passed None ws h in
         rw (start k (omega arith), end) at (slot-slices_to ws (first ws) (slice_ends ws) k a.0.whole place)
 
 -- the words of a slice that lies inside
 module _ (ws : List ℕ) (s : Span) (i : Inside ws s) where
-  pub length-span : length (slice_in ws s).words ≡ words_for s.bytes
-  length-span = rw (length-take, length-drop) (omega arith)
+  pub length_span : length (slice_in ws s).words ≡ words_for s.bytes
+  length_span = rw (length-take, length-drop) (omega arith)
 
-  pub element-span : (k w : ℕ) → k < words_for s.bytes → Some w ≡ word_at ws (s.from + k) → Ok w ≡ element (slice_in ws s).words k
-  element-span k w h e =
-      ap Ok (sym (word_at-some ws (s.from + k) w e).1 ∙ sym (get_or-take (words_for s.bytes) (drop s.from ws) k 0 h ∙ get_or-drop s.from ws k 0))
-      ∙ sym (element-at (slice_in ws s).words k 0 (omega (arith, length-span)))
+  pub element_span : (k w : ℕ) → k < words_for s.bytes → Some w ≡ word_at ws (s.from + k) → Ok w ≡ element (slice_in ws s).words k
+  element_span k w h e =
+      ap Ok (sym (word_at_some ws (s.from + k) w e).1 ∙ sym (get_or-take (words_for s.bytes) (drop s.from ws) k 0 h ∙ get_or-drop s.from ws k 0))
+      ∙ sym (element_at_lem (slice_in ws s).words k 0 (omega (arith, length_span)))
 
   pub element-after : (k : ℕ) → words_for s.bytes ≤ k → Err (refuse OutOfRange 0) ≡ element (slice_in ws s).words k
-  element-after k h = sym (element-past (slice_in ws s).words k (omega (arith, length-span)))
+  element-after k h = sym (element_past (slice_in ws s).words k (omega (arith, length_span)))

@@ -6,7 +6,7 @@ use Rattle.std.proofs.lemmas.List.FromFn.{length-map-range_with_len, get_or-map-
 use Rattle.std.proofs.ByRecursion.{All-get_or, All-from_get_or, All-append, All-drop}
 use Rattle.std.proofs.lemmas.Bool.{eqb-true, eq-eqb, ne_eqb, ltb-true, lt-ltb, leb-true, le-leb, and_parts, cond_both}
 use Rattle.area.specs.Slice.{Slice, WellFormed, ZeroPadded, weight}
-use Rattle.area.proofs.SliceLemmas.{of_words-formed, of_words-padded}
+use Rattle.area.proofs.SliceLemmas.{of_words-formed, of_words_padded}
 use Rattle.column.specs.Kind.{Format, Laws, Held, Accepted, L, every, reads, slot, word_of, least_words, reading_within, further}
 use Rattle.offsets.specs.Head.{multiples}
 use Rattle.offsets.specs.Strides.{stride, goes_on, front, bounds, stands_for, strides_format}
@@ -33,17 +33,17 @@ goes_on-split s k (x ∷ xs) =
     (λ e. ap₂ ◌∷◌ (eqb-true x (s * k) e) (goes_on-split s (k + 1) xs))
     (λ e. refl)
 
-goes_on-le : (s k : ℕ) (xs : List ℕ) → goes_on s k xs ≤ length xs
-goes_on-le s k [] = omega arith
-goes_on-le s k (x ∷ xs) =
-    let h = goes_on-le s (k + 1) xs in
+goes_on_le : (s k : ℕ) (xs : List ℕ) → goes_on s k xs ≤ length xs
+goes_on_le s k [] = omega arith
+goes_on_le s k (x ∷ xs) =
+    let h = goes_on_le s (k + 1) xs in
     cond_both (eqb x (s * k)) (suc (goes_on s (k + 1) xs)) 0 (λ n. n ≤ suc (length xs)) (λ e. omega arith) (λ e. omega arith)
 
 pub split : (xs : List ℕ) → xs ≡ multiples (stride xs) (front xs) ++ bounds xs
 split xs = goes_on-split (stride xs) 1 xs
 
-pub front-le : (xs : List ℕ) → front xs ≤ length xs
-front-le xs = goes_on-le (stride xs) 1 xs
+pub front_le : (xs : List ℕ) → front xs ≤ length xs
+front_le xs = goes_on_le (stride xs) 1 xs
 
 pub length-bounds : (xs : List ℕ) → length (bounds xs) ≡ length xs - front xs
 length-bounds xs = length-drop (front xs) xs
@@ -69,8 +69,8 @@ front-append xs ys h =
     (ap (λ zs. zs ++ ys) (split xs) ∙ append_assoc (multiples (stride xs) (front xs)) (bounds xs) ys)
 
 -- the bounds do not go on where the front ends
-bounds-start : (xs : List ℕ) → goes_on (stride xs) (front xs + 1) (bounds xs) ≡ 0
-bounds-start xs = omega (arith, front-run xs (stride xs) (front xs) (bounds xs) refl (split xs))
+bounds_start : (xs : List ℕ) → goes_on (stride xs) (front xs + 1) (bounds xs) ≡ 0
+bounds_start xs = omega (arith, front-run xs (stride xs) (front xs) (bounds xs) refl (split xs))
 
 goes_on-head : (s k : ℕ) (xs ys : List ℕ) → 0 < length xs → goes_on s k xs ≡ 0 → goes_on s k (xs ++ ys) ≡ 0
 goes_on-head s k [] ys h e = absurd (omega arith)
@@ -89,38 +89,38 @@ front-first x =
     let f : front (x ∷ []) ≡ 1 = rw (eq-eqb x (x * 1) (sym (mul-one x))) in
     (refl, f, ap (λ n. drop n (x ∷ [])) f)
 
-goes_on-one : (s k x : ℕ) → x ≡ s * k → goes_on s k (x ∷ []) ≡ 1
-goes_on-one s k x e = rw (eq-eqb x (s * k) e)
+goes_on_one : (s k x : ℕ) → x ≡ s * k → goes_on s k (x ∷ []) ≡ 1
+goes_on_one s k x e = rw (eq-eqb x (s * k) e)
 
 goes_on-push : (s k : ℕ) (bs : List ℕ) (x : ℕ) → goes_on s k bs ≡ 0 → (x ≡ s * k → ⊥) → goes_on s k (bs ++ x ∷ []) ≡ 0
 goes_on-push s k [] x h e = rw (ne_eqb x (s * k) e)
 goes_on-push s k (b ∷ bs) x h e = goes_on-head s k (b ∷ bs) (x ∷ []) (omega arith) h
 
-pub front-more : (xs : List ℕ) (x : ℕ) → 0 < length xs → length (bounds xs) ≡ 0 → x ≡ stride xs * (front xs + 1) → Stands (xs ++ x ∷ []) (stride xs) (front xs + 1) []
-front-more xs x h b e =
+pub front_more : (xs : List ℕ) (x : ℕ) → 0 < length xs → length (bounds xs) ≡ 0 → x ≡ stride xs * (front xs + 1) → Stands (xs ++ x ∷ []) (stride xs) (front xs + 1) []
+front_more xs x h b e =
     let n : front (xs ++ x ∷ []) ≡ front xs + 1 =
     front-append xs (x ∷ []) h
     ∙ ap (λ bs. front xs + goes_on (stride xs) (front xs + 1) (bs ++ x ∷ [])) (nil_from_length (bounds xs) b)
-    ∙ ap (λ m. front xs + m) (goes_on-one (stride xs) (front xs + 1) x e) in
+    ∙ ap (λ m. front xs + m) (goes_on_one (stride xs) (front xs + 1) x e) in
     (stride-append xs (x ∷ []) h, n, nil_from_length (bounds (xs ++ x ∷ [])) (omega (arith, length-bounds xs, length-bounds (xs ++ x ∷ []), length-append xs (x ∷ []))))
 
 -- of a list whose front stays
 stays : (xs : List ℕ) (x : ℕ) → 0 < length xs → goes_on (stride xs) (front xs + 1) (bounds xs ++ x ∷ []) ≡ 0 → Stands (xs ++ x ∷ []) (stride xs) (front xs) (bounds xs ++ x ∷ [])
 stays xs x h e =
     let f : front (xs ++ x ∷ []) ≡ front xs = omega (arith, front-append xs (x ∷ []) h) in
-    (stride-append xs (x ∷ []) h, f, ap (λ n. drop n (xs ++ x ∷ [])) f ∙ drop-append-le (front xs) xs (x ∷ []) (front-le xs))
+    (stride-append xs (x ∷ []) h, f, ap (λ n. drop n (xs ++ x ∷ [])) f ∙ drop-append-le (front xs) xs (x ∷ []) (front_le xs))
 
 pub front-ends-bounds : (xs : List ℕ) (x : ℕ) → 0 < length (bounds xs) → Stands (xs ++ x ∷ []) (stride xs) (front xs) (bounds xs ++ x ∷ [])
 front-ends-bounds xs x h =
-    stays xs x (omega (arith, length-bounds xs)) (goes_on-head (stride xs) (front xs + 1) (bounds xs) (x ∷ []) h (bounds-start xs))
+    stays xs x (omega (arith, length-bounds xs)) (goes_on-head (stride xs) (front xs + 1) (bounds xs) (x ∷ []) h (bounds_start xs))
 
 pub front_ends : (xs : List ℕ) (x : ℕ) → 0 < length xs → (x ≡ stride xs * (front xs + 1) → ⊥) → Stands (xs ++ x ∷ []) (stride xs) (front xs) (bounds xs ++ x ∷ [])
-front_ends xs x h e = stays xs x h (goes_on-push (stride xs) (front xs + 1) (bounds xs) x (bounds-start xs) e)
+front_ends xs x h e = stays xs x h (goes_on-push (stride xs) (front xs + 1) (bounds xs) x (bounds_start xs) e)
 
 -- the head's numbers fit a word
 pub product : (xs : List ℕ) → every is_word xs ≡ true → stride xs * front xs < 2 ^ 64
 product [] h = omega arith
-product (x ∷ xs) h = last (front (x ∷ xs)) (front-positive x xs) (split (x ∷ xs)) (front-le (x ∷ xs))
+product (x ∷ xs) h = last (front (x ∷ xs)) (front-positive x xs) (split (x ∷ xs)) (front_le (x ∷ xs))
   where
     ys : List ℕ
     ys = x ∷ xs
@@ -136,8 +136,8 @@ product (x ∷ xs) h = last (front (x ∷ xs)) (front-positive x xs) (split (x �
         rw (at, up) at (All-get_or (λ y. y < 2 ^ 64) ys n 0 u (all_words ys h))
 
 -- multiples up to a product that fits a word fit a word
-multiples-fit : (s n : ℕ) → s * n < 2 ^ 64 → AllByRecursion (λ x. x < 2 ^ 64) (multiples s n)
-multiples-fit s n h =
+multiples_fit : (s n : ℕ) → s * n < 2 ^ 64 → AllByRecursion (λ x. x < 2 ^ 64) (multiples s n)
+multiples_fit s n h =
     All-from_get_or (λ x. x < 2 ^ 64) (multiples s n) 0
     (λ i l. let m : i + 1 ≤ n = omega (arith, length-multiples s n) in
     omega (arith, get_or-multiples s n i 0 (omega arith), mul-le-mul_left s m))
@@ -149,7 +149,7 @@ stride-fits (x ∷ xs) h = (all_words (x ∷ xs) h).0
 reads-back : (xs : List ℕ) → Held is_word xs → reading_within (ltb (stride xs * front xs) (2 ^ 64) && leb (front xs + length (bounds xs)) L) (multiples (stride xs) (front xs) ++ bounds xs) ≡ reads xs
 reads-back xs h =
     let fits = lt-ltb (stride xs * front xs) (2 ^ 64) (product xs h.0) in
-    let short = le-leb (front xs + length (bounds xs)) L (omega (arith, length-bounds xs, front-le xs, h.1)) in
+    let short = le-leb (front xs + length (bounds xs)) L (omega (arith, length-bounds xs, front_le xs, h.1)) in
     rw (fits, short) (ap reads (sym (split xs)))
 
 module _ (B : Format ℕ) where
@@ -192,7 +192,7 @@ module _ (B : Format ℕ) (laws : Laws is_word B) (heavy : (ys : List ℕ) → H
       let n = word_of (slot ss 0) 1 in
       let h = laws.sound (drop 1 ss) p.bs p.below in
       rw p.is (
-        every-words (stands_for s n p.bs) (All-append (λ x. x < 2 ^ 64) (multiples s n) p.bs (multiples-fit s n p.fits) (all_words p.bs h.0)),
+        every-words (stands_for s n p.bs) (All-append (λ x. x < 2 ^ 64) (multiples s n) p.bs (multiples_fit s n p.fits) (all_words p.bs h.0)),
         omega (arith, length-append (multiples s n) p.bs, length-multiples s n, p.short),
       )
 
@@ -225,15 +225,15 @@ module _ (B : Format ℕ) (laws : Laws is_word B) (heavy : (ys : List ℕ) → H
           fitting = rw g.0.fitting (rw b.fitting at a.fitting);
           reading = rw g.0.reading (rw b.reading at a.reading);
         },
-        (of_words-padded ws, g.1),
+        (of_words_padded ws, g.1),
       )
 
-  pub strides-laws : Laws is_word (strides_format B)
-  strides-laws = record {
+  pub strides_laws : Laws is_word (strides_format B)
+  strides_laws = record {
     shape = λ xs h.
         let b = laws.shape (bounds xs) (held-bounds xs h) in (
           ap suc b.0,
-          (((stride-fits xs h.0, (omega (arith, front-le xs, h.1), tt)), refl), b.1),
+          (((stride-fits xs h.0, (omega (arith, front_le xs, h.1), tt)), refl), b.1),
           (tt, b.2),
         );
     return = λ xs h.

@@ -14,19 +14,19 @@ use Rattle.column.specs.Kind.{Laws, Held, L}
 use Rattle.column.specs.Element.{unsigned}
 use Rattle.column.specs.Run.{RunSound, run_list, run_takes, word_run}
 use Rattle.offsets.specs.Strides.{StridesSound, stride, front, bounds, strides_list, stands_for, strides_format, strides_takes, bounds_at}
-use Rattle.column.proofs.ColumnLemmas.{element-at, element-past, every_append}
-use Rattle.column.specs.RunLaws.{run-laws, unsigned-one-to-one, word-run-weight}
-use Rattle.column.proofs.SliceAt.{slice_length-right, word_in_slice-right}
-use Rattle.offsets.proofs.StridesLaws.{Stands, split, front-positive, front-first, front-more, front_ends, front-ends-bounds, length-multiples, get_or-multiples, product, strides-laws}
+use Rattle.column.proofs.ColumnLemmas.{element_at_lem, element_past, every_append}
+use Rattle.column.specs.RunLaws.{run_laws, unsigned_one_to_one, word-run-weight}
+use Rattle.column.proofs.SliceAt.{slice_length_right, word_in_slice_right}
+use Rattle.offsets.proofs.StridesLaws.{Stands, split, front-positive, front-first, front_more, front_ends, front-ends-bounds, length-multiples, get_or-multiples, product, strides_laws}
 use Rattle.column.proofs.WordLemmas.{is_word}
 
-pub word-strides-laws : Laws is_word (strides_format word_run)
-word-strides-laws = strides-laws word_run (run-laws is_word (unsigned 8) (unsigned-one-to-one 8 (lit< tt))) (λ ys h. word-run-weight ys h.0)
+pub word_strides_laws : Laws is_word (strides_format word_run)
+word_strides_laws = strides_laws word_run (run_laws is_word (unsigned 8) (unsigned_one_to_one 8 (lit< tt))) (λ ys h. word-run-weight ys h.0)
 
 -- what a head and bounds stand for
 module _ (s n : ℕ) (bs : List ℕ) where
-  pub length-stands : length (stands_for s n bs) ≡ n + length bs
-  length-stands = omega (arith, length-append (multiples s n) bs, length-multiples s n)
+  pub length_stands_lem : length (stands_for s n bs) ≡ n + length bs
+  length_stands_lem = omega (arith, length-append (multiples s n) bs, length-multiples s n)
 
   pub element-head : (i : ℕ) → i < n → s * n < 2 ^ 64 → Ok (s * (i + 1) % 2 ^ 64) ≡ element (stands_for s n bs) i
   element-head i h p =
@@ -34,7 +34,7 @@ module _ (s n : ℕ) (bs : List ℕ) where
       let fits : s * (i + 1) < 2 ^ 64 = omega (arith, mul-le-mul_left s m) in
       let at : get_or (stands_for s n bs) i 0 ≡ s * (i + 1) =
       get_or_append_left (multiples s n) bs 0 i (omega (arith, length-multiples s n)) ∙ get_or-multiples s n i 0 h in
-      ap Ok (mod-eq_of_lt fits ∙ sym at) ∙ sym (element-at (stands_for s n bs) i 0 (omega (arith, length-stands)))
+      ap Ok (mod-eq_of_lt fits ∙ sym at) ∙ sym (element_at_lem (stands_for s n bs) i 0 (omega (arith, length_stands_lem)))
 
 element-append : {E : Type 0} (xs ys : List E) (i : ℕ) → length xs ≤ i → element (xs ++ ys) i ≡ element ys (i - length xs)
 element-append [] ys i h = rw sub-zero
@@ -46,33 +46,33 @@ element-bounds s n bs i h =
     let e = length-multiples s n in
     element-append (multiples s n) bs i (omega arith) ∙ ap (λ m. element bs (i - m)) e
 
-front-nil : (xs : List ℕ) → front xs ≡ 0 → xs ≡ []
-front-nil [] h = refl
-front-nil (x ∷ xs) h = absurd (omega (arith, front-positive x xs))
+front_nil : (xs : List ℕ) → front xs ≡ 0 → xs ≡ []
+front_nil [] h = refl
+front_nil (x ∷ xs) h = absurd (omega (arith, front-positive x xs))
 
 own : (s n : ℕ) (bs : List ℕ) → front (stands_for s n bs) ≡ n → (n ≡ 0 → s ≡ 0) → Stands (stands_for s n bs) s n bs
 own s zero bs f z =
-    let e = front-nil bs f in
+    let e = front_nil bs f in
     (ap stride e ∙ sym (z refl), f, ap (λ m. drop m bs) f)
 own s (suc n) bs f z =
     (mul-one s, f, ap (λ m. drop m (stands_for s (suc n) bs)) f ∙ drop_at (multiples s (suc n)) bs (suc n) (length-multiples s (suc n)))
 
 -- a sound column's head and bounds are its list's own
-pub sound-stands : (c : Strides) → StridesSound c → Stands (strides_list c) c.head.stride c.head.length (run_list c.bounds)
-sound-stands c h = own c.head.stride c.head.length (run_list c.bounds) h.longest h.head.cleared
+pub sound_stands : (c : Strides) → StridesSound c → Stands (strides_list c) c.head.stride c.head.length (run_list c.bounds)
+sound_stands c h = own c.head.stride c.head.length (run_list c.bounds) h.longest h.head.cleared
 
 -- and a column whose head and bounds are a list's own is sound, with that list
-pub stands-list : (c : Strides) (xs : List ℕ) → Stands xs c.head.stride c.head.length (run_list c.bounds) → strides_list c ≡ xs
-stands-list c xs (s, n, b) = sym (split xs ∙ ap₂ ◌++◌ (ap₂ multiples s n) b)
+pub stands_list : (c : Strides) (xs : List ℕ) → Stands xs c.head.stride c.head.length (run_list c.bounds) → strides_list c ≡ xs
+stands_list c xs (s, n, b) = sym (split xs ∙ ap₂ ◌++◌ (ap₂ multiples s n) b)
 
-pub stands-sound : (c : Strides) (xs : List ℕ) → Stands xs c.head.stride c.head.length (run_list c.bounds) → RunSound is_word c.bounds → Held is_word xs → StridesSound c
-stands-sound c xs t r h =
-    let e = stands-list c xs t in
+pub stands_sound : (c : Strides) (xs : List ℕ) → Stands xs c.head.stride c.head.length (run_list c.bounds) → RunSound is_word c.bounds → Held is_word xs → StridesSound c
+stands_sound c xs t r h =
+    let e = stands_list c xs t in
     record {
       run = r;
       head = record {
         product = subst (λ m. m < 2 ^ 64) (ap₂ ◌*◌ t.0 t.1) (product xs h.0);
-        cleared = λ z. sym t.0 ∙ ap stride (front-nil xs (t.1 ∙ z));
+        cleared = λ z. sym t.0 ∙ ap stride (front_nil xs (t.1 ∙ z));
       };
       longest = ap front e ∙ t.1;
       held = subst (Held is_word) (sym e) h;
@@ -88,8 +88,8 @@ next_multiple s n x h =
     let e = is_next_lem (ltb (n + 1) (2 ^ 64) && ltb (s * (n + 1)) (2 ^ 64)) (s * (n + 1)) x in
     sym (eqb-true (s * (n + 1)) x (and_parts _ (eqb (s * (n + 1)) x) (sym e ∙ h)).1)
 
-no-multiple : (s n x : ℕ) → is_next s n x ≡ false → n + 1 < 2 ^ 64 → x < 2 ^ 64 → x ≡ s * (n + 1) → ⊥
-no-multiple s n x h l f e =
+no_multiple : (s n x : ℕ) → is_next s n x ≡ false → n + 1 < 2 ^ 64 → x < 2 ^ 64 → x ≡ s * (n + 1) → ⊥
+no_multiple s n x h l f e =
     let t = is_next_lem (ltb (n + 1) (2 ^ 64) && ltb (s * (n + 1)) (2 ^ 64)) (s * (n + 1)) x in
     let fits = and_from (ltb (n + 1) (2 ^ 64)) (ltb (s * (n + 1)) (2 ^ 64)) (lt-ltb (n + 1) (2 ^ 64) l) (lt-ltb (s * (n + 1)) (2 ^ 64) (omega arith)) in
     both_ways (is_next s n x) h (t ∙ and_from _ (eqb (s * (n + 1)) x) fits (eq-eqb (s * (n + 1)) x (sym e)))
@@ -104,29 +104,29 @@ module _ (c : Strides) (h : StridesSound c) (x : ℕ) where
 
   pub push-first : c.head.length ≡ 0 → Stands (strides_list c ++ x ∷ []) x 1 (run_list c.bounds)
   push-first z =
-      let e = front-nil (strides_list c) (h.longest ∙ z) in
+      let e = front_nil (strides_list c) (h.longest ∙ z) in
       let t = front-first x in
-      let none : run_list c.bounds ≡ [] = sym (sound-stands c h).2 ∙ ap bounds e in
+      let none : run_list c.bounds ≡ [] = sym (sound_stands c h).2 ∙ ap bounds e in
       subst (λ ys. Stands (ys ++ x ∷ []) x 1 (run_list c.bounds)) (sym e) (t.0, t.1, t.2 ∙ sym none)
 
   some : (c.head.length ≡ 0 → ⊥) → 0 < length (strides_list c)
-  some z = omega (arith, length-stands c.head.stride c.head.length (run_list c.bounds))
+  some z = omega (arith, length_stands_lem c.head.stride c.head.length (run_list c.bounds))
 
-  pub push-more : (c.head.length ≡ 0 → ⊥) → true ≡ continuing → Stands (strides_list c ++ x ∷ []) c.head.stride (c.head.length + 1) (run_list c.bounds)
-  push-more z e =
-      let o = sound-stands c h in
+  pub push_more : (c.head.length ≡ 0 → ⊥) → true ≡ continuing → Stands (strides_list c ++ x ∷ []) c.head.stride (c.head.length + 1) (run_list c.bounds)
+  push_more z e =
+      let o = sound_stands c h in
       let p = and_parts (eqb c.bounds.len 0) (is_next c.head.stride c.head.length x) (sym e) in
       let none : length (bounds (strides_list c)) ≡ 0 = ap length o.2 ∙ length_run ∙ eqb-true c.bounds.len 0 p.0 in
       let next : x ≡ stride (strides_list c) * (front (strides_list c) + 1) =
       next_multiple c.head.stride c.head.length x p.1 ∙ sym (ap₂ (λ s n. s * (n + 1)) o.0 o.1) in
-      let t = front-more (strides_list c) x (some z) none next in
+      let t = front_more (strides_list c) x (some z) none next in
       (t.0 ∙ o.0, t.1 ∙ ap (λ n. n + 1) o.1, t.2 ∙ sym (nil_from_length (bounds (strides_list c)) none) ∙ o.2)
 
   pub push-ends : (c.head.length ≡ 0 → ⊥) → false ≡ continuing → x < 2 ^ 64 → Stands (strides_list c ++ x ∷ []) c.head.stride c.head.length (run_list c.bounds ++ x ∷ [])
   push-ends z e f = ⊎_elim bounded last (and_cases (eqb c.bounds.len 0) (is_next c.head.stride c.head.length x) (sym e))
     where
       o : Stands (strides_list c) c.head.stride c.head.length (run_list c.bounds)
-      o = sound-stands c h
+      o = sound_stands c h
 
       kept : Stands (strides_list c ++ x ∷ []) (stride (strides_list c)) (front (strides_list c)) (bounds (strides_list c) ++ x ∷ []) → Stands (strides_list c ++ x ∷ []) c.head.stride c.head.length (run_list c.bounds ++ x ∷ [])
       kept t = (t.0 ∙ o.0, t.1 ∙ o.1, t.2 ∙ ap (λ bs. bs ++ x ∷ []) o.2)
@@ -139,8 +139,8 @@ module _ (c : Strides) (h : StridesSound c) (x : ℕ) where
 
       last : is_next c.head.stride c.head.length x ≡ false → Stands (strides_list c ++ x ∷ []) c.head.stride c.head.length (run_list c.bounds ++ x ∷ [])
       last n =
-          let short : c.head.length + 1 < 2 ^ 64 = omega (arith, length-stands c.head.stride c.head.length (run_list c.bounds), h.held.1) in
-          kept (front_ends (strides_list c) x (some z) (λ q. no-multiple c.head.stride c.head.length x n short f (q ∙ ap₂ (λ s m. s * (m + 1)) o.0 o.1)))
+          let short : c.head.length + 1 < 2 ^ 64 = omega (arith, length_stands_lem c.head.stride c.head.length (run_list c.bounds), h.held.1) in
+          kept (front_ends (strides_list c) x (some z) (λ q. no_multiple c.head.stride c.head.length x n short f (q ∙ ap₂ (λ s m. s * (m + 1)) o.0 o.1)))
 
   held-push : length (strides_list c) < L → is_word x ≡ true → Held is_word (strides_list c ++ x ∷ [])
   held-push l f = (
@@ -149,14 +149,14 @@ module _ (c : Strides) (h : StridesSound c) (x : ℕ) where
   )
 
   -- it is taken if it needs no bound, and else by the run
-  pub takes-free : (a : Areas) (s n : ℕ) → length (strides_list c) < L → Stands (strides_list c ++ x ∷ []) s n (run_list c.bounds) → strides_takes a (strides_list c) x ≡ true
-  takes-free a s n l t =
-      let same = eq-eqb _ _ (ap length (t.2 ∙ sym (sound-stands c h).2)) in
+  pub takes_free : (a : Areas) (s n : ℕ) → length (strides_list c) < L → Stands (strides_list c ++ x ∷ []) s n (run_list c.bounds) → strides_takes a (strides_list c) x ≡ true
+  takes_free a s n l t =
+      let same = eq-eqb _ _ (ap length (t.2 ∙ sym (sound_stands c h).2)) in
       and_from _ _ (lt-ltb (length (strides_list c)) L l) (or_left _ (run_takes a (bounds (strides_list c)) x) same)
 
-  pub takes-bound : (a : Areas) (s n : ℕ) → length (strides_list c) < L → Stands (strides_list c ++ x ∷ []) s n (run_list c.bounds ++ x ∷ []) → strides_takes a (strides_list c) x ≡ run_takes a (run_list c.bounds) x
-  takes-bound a s n l t =
-      let o = (sound-stands c h).2 in
+  pub takes_bound : (a : Areas) (s n : ℕ) → length (strides_list c) < L → Stands (strides_list c ++ x ∷ []) s n (run_list c.bounds ++ x ∷ []) → strides_takes a (strides_list c) x ≡ run_takes a (run_list c.bounds) x
+  takes_bound a s n l t =
+      let o = (sound_stands c h).2 in
       let more = ne_eqb (length (bounds (strides_list c ++ x ∷ []))) (length (bounds (strides_list c))) (λ e. omega (arith, ap length t.2, ap length o, length_push (run_list c.bounds) x)) in
       ap₂ (λ p q. p && (q || run_takes a (bounds (strides_list c)) x)) (lt-ltb (length (strides_list c)) L l) more ∙ ap (λ bs. run_takes a bs x) o
 
@@ -174,18 +174,18 @@ module _ (a : Areas) (c : Strides) (h : StridesSound c) (x : ℕ) (l : length (s
   -- the head answers
   pub push-head : (d : Head) → Stands (strides_list c ++ x ∷ []) d.stride d.length (run_list c.bounds) → Pushes a c (record { head = d; bounds = c.bounds }) x (Ok tt)
   push-head d t =
-      let free = takes-free c h x a d.stride d.length l t in
+      let free = takes_free c h x a d.stride d.length l t in
       record {
-        keeps = stands-sound (record { head = d; bounds = c.bounds }) (strides_list c ++ x ∷ []) t h.run (held-push c h x l f);
+        keeps = stands_sound (record { head = d; bounds = c.bounds }) (strides_list c ++ x ∷ []) t h.run (held-push c h x l f);
         answer = ap push_answer (sym free);
-        after = stands-list (record { head = d; bounds = c.bounds }) (strides_list c ++ x ∷ []) t ∙ ap (λ b. pushed b (strides_list c) x) (sym free);
+        after = stands_list (record { head = d; bounds = c.bounds }) (strides_list c ++ x ∷ []) t ∙ ap (λ b. pushed b (strides_list c) x) (sym free);
       }
 
   -- the run answers
   pub push-run : (b : Run ℕ) (r : Result (Unit {0}) Fault) (y : ℕ) → y ≡ x → Stands (strides_list c ++ x ∷ []) c.head.stride c.head.length (run_list c.bounds ++ x ∷ []) → RunSound is_word b → r ≡ push_answer (run_takes a (run_list c.bounds) x) → run_list b ≡ pushed (run_takes a (run_list c.bounds) x) (run_list c.bounds) y → Pushes a c (record { head = c.head; bounds = b }) x r
   push-run b r y d t s e q =
       let k = q ∙ ap (pushed (run_takes a (run_list c.bounds) x) (run_list c.bounds)) d in
-      let same = sym (takes-bound c h x a c.head.stride c.head.length l t) in
+      let same = sym (takes_bound c h x a c.head.stride c.head.length l t) in
       record {
         keeps = sound (run_takes a (run_list c.bounds) x) k;
         answer = e ∙ ap push_answer same;
@@ -196,51 +196,51 @@ module _ (a : Areas) (c : Strides) (h : StridesSound c) (x : ℕ) (l : length (s
       }
     where
       sound : (q : Bool) → run_list b ≡ pushed q (run_list c.bounds) x → StridesSound (record { head = c.head; bounds = b })
-      sound true k = stands-sound (record { head = c.head; bounds = b }) (strides_list c ++ x ∷ []) (t.0, t.1, t.2 ∙ sym k) s (held-push c h x l f)
-      sound false k = let o = sound-stands c h in stands-sound (record { head = c.head; bounds = b }) (strides_list c) (o.0, o.1, o.2 ∙ sym k) s h.held
+      sound true k = stands_sound (record { head = c.head; bounds = b }) (strides_list c ++ x ∷ []) (t.0, t.1, t.2 ∙ sym k) s (held-push c h x l f)
+      sound false k = let o = sound_stands c h in stands_sound (record { head = c.head; bounds = b }) (strides_list c) (o.0, o.1, o.2 ∙ sym k) s h.held
 
 -- its slices: the head's two words, and the run's
 module _ (c : Strides) (h : StridesSound c) (k : ℕ) where
   abbrev head_slice : List Slice
   head_slice = of_words (stride (strides_list c) ∷ front (strides_list c) ∷ []) ∷ []
 
-  pub slice-length : (k ≡ 0 → ⊥) → slice_length (word_run.writing (run_list c.bounds)) (k - 1) ≡ slice_length ((strides_format word_run).writing (strides_list c)) k
-  slice-length z =
-      ap (λ bs. slice_length (word_run.writing bs) (k - 1)) (sym (sound-stands c h).2)
-      ∙ sym (slice_length-right head_slice (word_run.writing (bounds (strides_list c))) k (omega arith) (λ p. omega arith))
+  pub slice_length_lem : (k ≡ 0 → ⊥) → slice_length (word_run.writing (run_list c.bounds)) (k - 1) ≡ slice_length ((strides_format word_run).writing (strides_list c)) k
+  slice_length_lem z =
+      ap (λ bs. slice_length (word_run.writing bs) (k - 1)) (sym (sound_stands c h).2)
+      ∙ sym (slice_length_right head_slice (word_run.writing (bounds (strides_list c))) k (omega arith) (λ p. omega arith))
 
-  pub slice-word : (i : ℕ) → 0 < k → word_in_slice (word_run.writing (run_list c.bounds)) (k - 1) i ≡ word_in_slice ((strides_format word_run).writing (strides_list c)) k i
-  slice-word i z =
-      ap (λ bs. word_in_slice (word_run.writing bs) (k - 1) i) (sym (sound-stands c h).2)
-      ∙ sym (word_in_slice-right head_slice (word_run.writing (bounds (strides_list c))) k i (omega arith) (λ p. omega arith))
+  pub slice_word_lem : (i : ℕ) → 0 < k → word_in_slice (word_run.writing (run_list c.bounds)) (k - 1) i ≡ word_in_slice ((strides_format word_run).writing (strides_list c)) k i
+  slice_word_lem i z =
+      ap (λ bs. word_in_slice (word_run.writing bs) (k - 1) i) (sym (sound_stands c h).2)
+      ∙ sym (word_in_slice_right head_slice (word_run.writing (bounds (strides_list c))) k i (omega arith) (λ p. omega arith))
 
   pub head-word : (i : ℕ) → k ≤ 0 → element (c.head.stride ∷ c.head.length ∷ []) i ≡ word_in_slice ((strides_format word_run).writing (strides_list c)) k i
   head-word i z =
-      let o = sound-stands c h in
+      let o = sound_stands c h in
       let first : k ≡ 0 = omega arith in
       ap₂ (λ s n. element (s ∷ n ∷ []) i) (sym o.0) (sym o.1)
       ∙ ap (λ j. word_in_slice ((strides_format word_run).writing (strides_list c)) j i) (sym first)
 
 -- an element with the one before it
 element-within : {E : Type 0} (xs : List E) (i : ℕ) (x : E) → Ok x ≡ element xs i → i < length xs
-element-within xs i x e = ⊎_elim (λ h. h) (λ h. let p = element-past xs i h in let z : ◌≡◌ {A = ℕ} 0 1 = cc in absurd (omega arith)) (cases_lt i (length xs))
+element-within xs i x e = ⊎_elim (λ h. h) (λ h. let p = element_past xs i h in let z : ◌≡◌ {A = ℕ} 0 1 = cc in absurd (omega arith)) (cases_lt i (length xs))
 
-get_or-before : (xs : List ℕ) (i : ℕ) → (i ≡ 0 → ⊥) → get_or (0 ∷ xs) i 0 ≡ get_or xs (i - 1) 0
-get_or-before xs zero h = absurd (h refl)
-get_or-before xs (suc i) h = rw (suc-sub-suc, sub-zero)
+get_or_before : (xs : List ℕ) (i : ℕ) → (i ≡ 0 → ⊥) → get_or (0 ∷ xs) i 0 ≡ get_or xs (i - 1) 0
+get_or_before xs zero h = absurd (h refl)
+get_or_before xs (suc i) h = rw (suc-sub-suc, sub-zero)
 
-element-before : (xs : List ℕ) (i x : ℕ) → Ok x ≡ element xs i → (i ≡ 0 → ⊥) → element xs (i - 1) ≡ Ok (get_or (0 ∷ xs) i 0)
-element-before xs i x e z =
+element_before : (xs : List ℕ) (i x : ℕ) → Ok x ≡ element xs i → (i ≡ 0 → ⊥) → element xs (i - 1) ≡ Ok (get_or (0 ∷ xs) i 0)
+element_before xs i x e z =
     let l = element-within xs i x e in
-    element-at xs (i - 1) 0 (omega arith) ∙ ap Ok (sym (get_or-before xs i z))
+    element_at_lem xs (i - 1) 0 (omega arith) ∙ ap Ok (sym (get_or_before xs i z))
 
 pub bounds_at_lem : (xs : List ℕ) (i x y : ℕ) → Ok x ≡ element xs i → (i ≡ 0 → ⊥) → Ok y ≡ element xs (i - 1) → ◌≡◌ {A = Result (ℕ × ℕ) Fault} (Ok (y, x)) (bounds_at xs i)
 bounds_at_lem xs i x y e z d =
-    let b = element-before xs i x e z in
+    let b = element_before xs i x e z in
     let same : y ≡ get_or (0 ∷ xs) i 0 = cc in
     subst (λ r. ◌≡◌ {A = Result (ℕ × ℕ) Fault} (Ok (y, x)) (elim r [ Ok x ↦ Ok (get_or (0 ∷ xs) i 0, x) | Err f ↦ Err f ])) e (ap (λ n. Ok (n, x)) same)
 
-pub never-refused : {A : Type 0} (xs : List ℕ) (i x : ℕ) (f : Fault) → Ok x ≡ element xs i → (i ≡ 0 → ⊥) → Err f ≡ element xs (i - 1) → A
-never-refused xs i x f e z d =
-    let b = element-before xs i x e z in
+pub never_refused : {A : Type 0} (xs : List ℕ) (i x : ℕ) (f : Fault) → Ok x ≡ element xs i → (i ≡ 0 → ⊥) → Err f ≡ element xs (i - 1) → A
+never_refused xs i x f e z d =
+    let b = element_before xs i x e z in
     let z : ◌≡◌ {A = ℕ} 0 1 = cc in absurd (omega arith)

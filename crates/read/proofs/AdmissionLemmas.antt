@@ -9,10 +9,10 @@ use Rattle.area.specs.declared.fault.Refusal.TheVariants.{SliceContent, SliceCou
 use Rattle.column.specs.Kind.{CAP, Format, Reading}
 use Rattle.decode.specs.Decode.{DecodedSound, ask, ends_fault, first, index_answer, index_fault, slice_ends, slices_of, structure_fault}
 use Rattle.decode.specs.declared.decoded.DecodedStore.{DecodedStore}
-use Rattle.decode.proofs.DecodeLemmas.{asked-passed, count-slices, index-counted, index-refused}
+use Rattle.decode.proofs.DecodeLemmas.{asked-passed, count_slices, index-counted, index_refused}
 use Rattle.read.specs.Admission.{admission, admitted, content_answer, read_answer}
 use Rattle.read.specs.Form.{There, form_answer, size_answer, slices_within, words_in}
-use Rattle.read.proofs.FormLemmas.{form-list, form-read, form-refused, form-stands, size-refused}
+use Rattle.read.proofs.FormLemmas.{form_list, form_read, form_refused, form_stands, size_refused}
 
 -- an index that passes questions 1 to 4 has fewer than CAP slices, and of any other no count is asked
 module _ (ws : List ℕ) (n m : ℕ) (p : n ≡ min m CAP) where
@@ -21,7 +21,7 @@ module _ (ws : List ℕ) (n m : ℕ) (p : n ≡ min m CAP) where
       let i = (index-counted ws q h).0 in
       let e : eqb (first ws / 8 - 1) n ≡ eqb (first ws / 8 - 1) m = grind (arith, nat_tests) in
       ap (λ b. index_fault ws (ask b SliceCount 0 (ends_fault (8 * length ws) 0 (first ws) (slice_ends ws)))) e
-  capped (Err e) h = index-refused ws _ e h ∙ sym (index-refused ws _ e h)
+  capped (Err e) h = index_refused ws _ e h ∙ sym (index_refused ws _ e h)
 
   pub count-capped : structure_fault (Some n) ws ≡ structure_fault (Some m) ws
   count-capped = capped (index_answer ws) refl
@@ -33,8 +33,8 @@ after_structure r o = elim o [ None ↦ r | Some f ↦ Err f ]
 abbrev after_size : {E : Type 0} → Reading E → Option ℕ → Result (List E) Fault
 after_size r o = elim o [ None ↦ content_answer r | Some k ↦ Err (refuse SliceSize k) ]
 
-pub structure-refused : {E : Type 0} (F : Format E) (ws : List ℕ) (n : ℕ) (e : Fault) → n ≡ min F.slots CAP → structure_fault (Some n) ws ≡ Some e → admission F ws ≡ Err e
-structure-refused F ws n e p h = ap (after_structure (read_answer F (slices_of ws))) (sym (count-capped ws n F.slots p) ∙ h)
+pub structure_refused : {E : Type 0} (F : Format E) (ws : List ℕ) (n : ℕ) (e : Fault) → n ≡ min F.slots CAP → structure_fault (Some n) ws ≡ Some e → admission F ws ≡ Err e
+structure_refused F ws n e p h = ap (after_structure (read_answer F (slices_of ws))) (sym (count-capped ws n F.slots p) ∙ h)
 
 -- a decoded store of the kind's slice count
 module _ {S E : Type 0} (f : S → List ℕ) (F : Format E) (d : DecodedStore S) (n : ℕ) (p : n ≡ min F.slots CAP) (h : structure_fault (Some n) (words_in f d) ≡ None) (g : DecodedSound f d) where
@@ -42,31 +42,31 @@ module _ {S E : Type 0} (f : S → List ℕ) (F : Format E) (d : DecodedStore S)
   asked = sym (count-capped (words_in f d) n F.slots p) ∙ h
 
   counted : length (slices_of (words_in f d)) ≡ F.slots
-  counted = count-slices (words_in f d) g.asked ∙ eqb-true _ _ (asked-passed (Some F.slots) (words_in f d) asked).1.0
+  counted = count_slices (words_in f d) g.asked ∙ eqb-true _ _ (asked-passed (Some F.slots) (words_in f d) asked).1.0
 
-  pub there-all : There f d 0 F.slots
-  there-all = record { decoded = g; enough = omega (arith, counted) }
+  pub there_all : There f d 0 F.slots
+  there_all = record { decoded = g; enough = omega (arith, counted) }
 
-  slices-all : slices_within f d 0 F.slots ≡ slices_of (words_in f d)
-  slices-all = take_all F.slots (slices_of (words_in f d)) (omega (arith, counted))
+  slices_all : slices_within f d 0 F.slots ≡ slices_of (words_in f d)
+  slices_all = take_all F.slots (slices_of (words_in f d)) (omega (arith, counted))
 
   read_by : admission F (words_in f d) ≡ read_answer F (slices_within f d 0 F.slots)
-  read_by = ap (after_structure (read_answer F (slices_of (words_in f d)))) asked ∙ ap (read_answer F) (sym slices-all)
+  read_by = ap (after_structure (read_answer F (slices_of (words_in f d)))) asked ∙ ap (read_answer F) (sym slices_all)
 
-  sized-by : (o : Option ℕ) → F.sized (slices_within f d 0 F.slots) ≡ o → admission F (words_in f d) ≡ after_size (F.reading (slices_within f d 0 F.slots)) o
-  sized-by o z = read_by ∙ ap (after_size (F.reading (slices_within f d 0 F.slots))) z
+  sized_by : (o : Option ℕ) → F.sized (slices_within f d 0 F.slots) ≡ o → admission F (words_in f d) ≡ after_size (F.reading (slices_within f d 0 F.slots)) o
+  sized_by o z = read_by ∙ ap (after_size (F.reading (slices_within f d 0 F.slots))) z
 
   pub size-admitted : (e : Fault) → Err e ≡ size_answer 0 (F.sized (slices_within f d 0 F.slots)) → admission F (words_in f d) ≡ Err e
   size-admitted e a =
-      let q = size-refused 0 (F.sized (slices_within f d 0 F.slots)) e a in
-      sized-by (Some q.0) q.1 ∙ ap Err (ap (refuse SliceSize) (sym (zero-add q.0)) ∙ sym q.2)
+      let q = size_refused 0 (F.sized (slices_within f d 0 F.slots)) e a in
+      sized_by (Some q.0) q.1 ∙ ap Err (ap (refuse SliceSize) (sym (zero-add q.0)) ∙ sym q.2)
 
-  pub form-admitted : {Form : Type 0} (slices : Form → List ℕ → List Slice) (kept : Form → List ℕ → Type 0) (r : Result Form Fault) → F.sized (slices_within f d 0 F.slots) ≡ None → form_answer slices kept (words_in f d) (slices_within f d 0 F.slots) 0 (F.reading (slices_within f d 0 F.slots)) r → admitted slices kept F (words_in f d) r
-  form-admitted slices kept (Ok t) z a =
-      let q = form-read slices kept (words_in f d) (slices_within f d 0 F.slots) 0 (F.reading (slices_within f d 0 F.slots)) t a in (
-        form-stands f slices kept F d 0 there-all z t a,
-        (q.3 ∙ slices-all, sized-by None z ∙ ap content_answer q.1 ∙ ap Ok (sym (form-list f slices kept F d 0 there-all z t a q.0 q.1))),
+  pub form_admitted : {Form : Type 0} (slices : Form → List ℕ → List Slice) (kept : Form → List ℕ → Type 0) (r : Result Form Fault) → F.sized (slices_within f d 0 F.slots) ≡ None → form_answer slices kept (words_in f d) (slices_within f d 0 F.slots) 0 (F.reading (slices_within f d 0 F.slots)) r → admitted slices kept F (words_in f d) r
+  form_admitted slices kept (Ok t) z a =
+      let q = form_read slices kept (words_in f d) (slices_within f d 0 F.slots) 0 (F.reading (slices_within f d 0 F.slots)) t a in (
+        form_stands f slices kept F d 0 there_all z t a,
+        (q.3 ∙ slices_all, sized_by None z ∙ ap content_answer q.1 ∙ ap Ok (sym (form_list f slices kept F d 0 there_all z t a q.0 q.1))),
       )
-  form-admitted slices kept (Err e) z a =
-      let q = form-refused slices kept (words_in f d) (slices_within f d 0 F.slots) 0 (F.reading (slices_within f d 0 F.slots)) e a in
-      sized-by None z ∙ ap content_answer q.1 ∙ ap Err (ap (refuse SliceContent) (sym (zero-add q.0)) ∙ sym q.2)
+  form_admitted slices kept (Err e) z a =
+      let q = form_refused slices kept (words_in f d) (slices_within f d 0 F.slots) 0 (F.reading (slices_within f d 0 F.slots)) e a in
+      sized_by None z ∙ ap content_answer q.1 ∙ ap Err (ap (refuse SliceContent) (sym (zero-add q.0)) ∙ sym q.2)

@@ -12,48 +12,48 @@ use Rattle.area.specs.Fault.{refuse}
 use Rattle.area.specs.Slice.{Slice, contents, of_bytes, spill, words_for}
 use Rattle.area.specs.declared.fault.Fault.{Fault}
 use Rattle.area.specs.declared.fault.Refusal.TheVariants.{OutOfRange}
-use Rattle.area.proofs.DigitLemmas.{all-length-digits, bytes-of-bits, get_or-chunks, get_or-digits, get_or-joined, length-chunks, length_digits, number_digits, number-digits-low, take-digits}
+use Rattle.area.proofs.DigitLemmas.{all_length-digits, bytes_of_bits, get_or-chunks, get_or-digits, get_or_joined, length-chunks, length_digits, number_digits, number-digits_low, take-digits}
 use Rattle.area.proofs.SliceLemmas.{length-contents, length-spill}
 use Rattle.storage.specs.Store.{word_at}
-use Rattle.storage.proofs.StoreLemmas.{word_at-in, word_at-some}
+use Rattle.storage.proofs.StoreLemmas.{word_at_in, word_at_some}
 use Rattle.column.specs.Column.{element, slice_length, word_in_slice}
 use Rattle.column.specs.Element.{Codec, OneToOne, unsigned}
 use Rattle.column.specs.Kind.{L}
 use Rattle.column.specs.Run.{elements, run_format}
-use Rattle.column.proofs.ColumnLemmas.{element-at, element-found, element-past}
+use Rattle.column.proofs.ColumnLemmas.{element_at_lem, element_found, element_past}
 use Rattle.column.specs.KindLemmas.{in_bounds}
 use Rattle.column.specs.RunLaws.{length-elements}
-use Rattle.column.proofs.RunLemmas.{one-length, one_word, one-word-past, past-from-err}
+use Rattle.column.proofs.RunLemmas.{one_length, one_word, one_word_past, past_from_err}
 use Rattle.decode.specs.Decode.{Inside, slice_in}
 use Rattle.decode.specs.declared.span.Span.{Span}
 use Rattle.decode.proofs.PartLemmas.{spill-drop, spill-take}
 use Rattle.read.specs.Form.{Stands, element_at, list_of}
 
 -- the first k bytes of word i
-pub spill-at : (ws : List ℕ) (i k : ℕ) → i < length ws → k ≤ 8 → take k (drop (8 * i) (spill ws)) ≡ digits 256 k (get_or ws i 0)
-spill-at ws i k h l =
+pub spill_at : (ws : List ℕ) (i k : ℕ) → i < length ws → k ≤ 8 → take k (drop (8 * i) (spill ws)) ≡ digits 256 k (get_or ws i 0)
+spill_at ws i k h l =
     let w : ℕ = get_or ws i 0 in
     rw (← spill-drop i ws, drop-cons ws i 0 h)
     (take-append-le k (digits 256 8 w) (spill (drop (suc i) ws)) (omega (arith, length_digits 256 8 w)) ∙ take-digits 256 k 8 w l)
 
 -- elements that stand from word p on
 module _ (ws : List ℕ) (p i : ℕ) where
-  pub word-stored : p + i < length ws → AllByRecursion (λ w. w < 2 ^ 64) ws → word_at ws (p + i) ≡ Some (element_at (unsigned 8) ws p i)
-  word-stored h u =
+  pub word_stored : p + i < length ws → AllByRecursion (λ w. w < 2 ^ 64) ws → word_at ws (p + i) ≡ Some (element_at (unsigned 8) ws p i)
+  word_stored h u =
       let w : ℕ = get_or ws (p + i) 0 in
       let q : 8 * p + 8 * i ≡ 8 * (p + i) = omega arith in
-      word_at-in ws (p + i) 0 h
-      ∙ ap Some (sym (rw (q, spill-at ws (p + i) 8 h (omega arith)) (number_digits 256 8 w (lit< tt) (All-get_or (λ v. v < 2 ^ 64) ws (p + i) 0 h u))))
+      word_at_in ws (p + i) 0 h
+      ∙ ap Some (sym (rw (q, spill_at ws (p + i) 8 h (omega arith)) (number_digits 256 8 w (lit< tt) (All-get_or (λ v. v < 2 ^ 64) ws (p + i) 0 h u))))
 
-  pub byte-stored : (w : ℕ) → Some w ≡ word_at ws (p + i / 8) → bit_and (w / 2 ^ (8 * (i % 8))) 255 ≡ element_at (unsigned 1) ws p i
-  byte-stored w e =
-      let a = word_at-some ws (p + i / 8) w e in
+  pub byte_stored : (w : ℕ) → Some w ≡ word_at ws (p + i / 8) → bit_and (w / 2 ^ (8 * (i % 8))) 255 ≡ element_at (unsigned 1) ws p i
+  byte_stored w e =
+      let a = word_at_some ws (p + i / 8) w e in
       let n : ℕ = 8 * (p + i / 8) + i % 8 in
       let q : 8 * p + 1 * i ≡ n = omega arith in
       let here : get_or (spill ws) n 0 ≡ w / 256 ^ (i % 8) % 256 =
-      get_or-joined (digits 256 8) 8 ws (p + i / 8) (i % 8) 0 0 (all-length-digits 256 8 ws) a.0 (omega arith)
+      get_or_joined (digits 256 8) 8 ws (p + i / 8) (i % 8) 0 0 (all_length-digits 256 8 ws) a.0 (omega arith)
       ∙ ap (λ v. get_or (digits 256 8 v) (i % 8) 0) a.1 ∙ get_or-digits 256 8 w (i % 8) (omega arith) in
-      and_mask (w / 2 ^ (8 * (i % 8))) 8 ∙ ap (λ v. w / v % 256) (bytes-of-bits (i % 8))
+      and_mask (w / 2 ^ (8 * (i % 8))) 8 ∙ ap (λ v. w / v % 256) (bytes_of_bits (i % 8))
       ∙ sym (rw (q, drop-cons (spill ws) n 0 (omega (arith, length-spill ws))) (omega arith))
 
 -- k elements from place a on, of the first n
@@ -66,33 +66,33 @@ part_in xs a k n h =
 module _ (s : Slice) (i w : ℕ) (e : Ok w ≡ element s.words i) where
   pub word-whole : w < 2 ^ 64 → 8 * i + 8 ≤ s.bytes → w ≡ number 256 (take 8 (drop (8 * i) (contents s)))
   word-whole u h =
-      let a = element-found s.words i w 0 e in
-      sym (ap (number 256) (part_in (spill s.words) (8 * i) 8 s.bytes h ∙ spill-at s.words i 8 a.0 (omega arith) ∙ ap (digits 256 8) a.1) ∙ number_digits 256 8 w (lit< tt) u)
+      let a = element_found s.words i w 0 e in
+      sym (ap (number 256) (part_in (spill s.words) (8 * i) 8 s.bytes h ∙ spill_at s.words i 8 a.0 (omega arith) ∙ ap (digits 256 8) a.1) ∙ number_digits 256 8 w (lit< tt) u)
 
-  pub word-part : (l : ℕ) → l ≤ 8 → s.bytes ≡ 8 * i + l → w % 2 ^ (8 * l) ≡ number 256 (take 8 (drop (8 * i) (contents s)))
-  word-part l h q =
-      let a = element-found s.words i w 0 e in
+  pub word_part : (l : ℕ) → l ≤ 8 → s.bytes ≡ 8 * i + l → w % 2 ^ (8 * l) ≡ number 256 (take 8 (drop (8 * i) (contents s)))
+  word_part l h q =
+      let a = element_found s.words i w 0 e in
       let part : drop (8 * i) (contents s) ≡ digits 256 l w =
-      ap (λ n. drop (8 * i) (take n (spill s.words))) q ∙ drop-take (8 * i) l (spill s.words) ∙ spill-at s.words i l a.0 h ∙ ap (digits 256 l) a.1 in
-      ap (λ n. w % n) (bytes-of-bits l)
-      ∙ sym (ap (λ bs. number 256 (take 8 bs)) part ∙ ap (number 256) (take_all 8 (digits 256 l w) (omega (arith, length_digits 256 l w))) ∙ number-digits-low 256 l w (lit< tt))
+      ap (λ n. drop (8 * i) (take n (spill s.words))) q ∙ drop-take (8 * i) l (spill s.words) ∙ spill_at s.words i l a.0 h ∙ ap (digits 256 l) a.1 in
+      ap (λ n. w % n) (bytes_of_bits l)
+      ∙ sym (ap (λ bs. number 256 (take 8 bs)) part ∙ ap (number 256) (take_all 8 (digits 256 l w) (omega (arith, length_digits 256 l w))) ∙ number-digits_low 256 l w (lit< tt))
 
 -- the bytes of a slice at a place
-pub contents-span : (ws : List ℕ) (s : Span) → contents (slice_in ws s) ≡ take s.bytes (drop (8 * s.from) (spill ws))
-contents-span ws s =
+pub contents_span : (ws : List ℕ) (s : Span) → contents (slice_in ws s) ≡ take s.bytes (drop (8 * s.from) (spill ws))
+contents_span ws s =
     rw (spill-take (words_for s.bytes) (drop s.from ws), spill-drop s.from ws)
     (take-take s.bytes (8 * words_for s.bytes) (drop (8 * s.from) (spill ws)) (omega arith))
 
 -- a form that stands for its list
 module _ {E : Type 0} (fits : E → Bool) (C : Codec E) (O : OneToOne fits C) (s : Span) (ws : List ℕ) (h : Stands (λ t vs. slice_in vs t ∷ []) (λ t vs. Inside vs t) (run_format C) s ws) where
-  run-list : list_of (run_format C) (slice_in ws s ∷ []) ≡ elements C (slice_in ws s)
-  run-list = sym (in_bounds (leb (s.bytes / C.size) L) (elements C (slice_in ws s)) (list_of (run_format C) (slice_in ws s ∷ [])) h.accepted.reading).1
+  run_list_lem : list_of (run_format C) (slice_in ws s ∷ []) ≡ elements C (slice_in ws s)
+  run_list_lem = sym (in_bounds (leb (s.bytes / C.size) L) (elements C (slice_in ws s)) (list_of (run_format C) (slice_in ws s ∷ [])) h.accepted.reading).1
 
   pub run_length : s.bytes / C.size ≡ length (list_of (run_format C) (slice_in ws s ∷ []))
-  run_length = sym (ap length run-list ∙ length-elements fits C O (slice_in ws s))
+  run_length = sym (ap length run_list_lem ∙ length-elements fits C O (slice_in ws s))
 
   pub run_past : (i : ℕ) → s.bytes / C.size ≤ i → Err (refuse OutOfRange 0) ≡ element (list_of (run_format C) (slice_in ws s ∷ [])) i
-  run_past i l = sym (element-past (list_of (run_format C) (slice_in ws s ∷ [])) i (omega (arith, run_length)))
+  run_past i l = sym (element_past (list_of (run_format C) (slice_in ws s ∷ [])) i (omega (arith, run_length)))
 
   module _ (i : ℕ) (l : i < s.bytes / C.size) where
     under : C.size * i + C.size ≤ s.bytes
@@ -108,33 +108,33 @@ module _ {E : Type 0} (fits : E → Bool) (C : Codec E) (O : OneToOne fits C) (s
         let x : E = element_at C ws s.from i in
         let here : get_or cs i [] ≡ take C.size (drop (8 * s.from + C.size * i) (spill ws)) =
         get_or-chunks C.size n (contents (slice_in ws s)) i l
-        ∙ ap (λ bs. take C.size (drop (C.size * i) bs)) (contents-span ws s)
+        ∙ ap (λ bs. take C.size (drop (C.size * i) bs)) (contents_span ws s)
         ∙ part_in (drop (8 * s.from) (spill ws)) (C.size * i) C.size s.bytes under
         ∙ ap (take C.size) (drop-drop (C.size * i) (8 * s.from) (spill ws)) in
-        sym (ap (λ xs. element xs i) run-list ∙ element-at (elements C (slice_in ws s)) i x (omega (arith, length-elements fits C O (slice_in ws s)))
+        sym (ap (λ xs. element xs i) run_list_lem ∙ element_at_lem (elements C (slice_in ws s)) i x (omega (arith, length-elements fits C O (slice_in ws s)))
         ∙ ap Ok (get_or-map C.value cs i [] x (omega (arith, length-chunks C.size n (contents (slice_in ws s)))) ∙ ap C.value here))
 
   run-bytes : length (contents (slice_in ws s)) ≡ s.bytes
   run-bytes = length-contents (slice_in ws s) h.accepted.formed.0
 
-  pub run-slice : (k : ℕ) → k ≤ 0 → Ok s.bytes ≡ slice_length (of_bytes (contents (slice_in ws s)) ∷ []) k
-  run-slice k p = ap Ok (sym run-bytes) ∙ sym (one-length (of_bytes (contents (slice_in ws s))) k p (omega (arith, run-bytes, h.keeps.within, h.keeps.short)))
+  pub run_slice : (k : ℕ) → k ≤ 0 → Ok s.bytes ≡ slice_length (of_bytes (contents (slice_in ws s)) ∷ []) k
+  run_slice k p = ap Ok (sym run-bytes) ∙ sym (one_length (of_bytes (contents (slice_in ws s))) k p (omega (arith, run-bytes, h.keeps.within, h.keeps.short)))
 
   -- word i, of which left bytes count
   pub run-word : (k i w left : ℕ) → k ≤ 0 → Ok w ≡ element (slice_in ws s).words i → left ≡ s.bytes - 8 * i → 8 ≤ left → Ok w ≡ word_in_slice (of_bytes (contents (slice_in ws s)) ∷ []) k i
   run-word k i w left p e q l =
-      let a = element-found (slice_in ws s).words i w 0 e in
+      let a = element_found (slice_in ws s).words i w 0 e in
       let u : w < 2 ^ 64 = subst (λ v. v < 2 ^ 64) a.1 (All-get_or (λ v. v < 2 ^ 64) (slice_in ws s).words i 0 a.0 h.accepted.formed.0.0) in
-      one_word (contents (slice_in ws s)) k s.bytes i (run-slice k p) w (omega arith) (word-whole (slice_in ws s) i w e u (omega arith))
+      one_word (contents (slice_in ws s)) k s.bytes i (run_slice k p) w (omega arith) (word-whole (slice_in ws s) i w e u (omega arith))
 
-  pub run-word-part : (k i w left : ℕ) → k ≤ 0 → Ok w ≡ element (slice_in ws s).words i → left ≡ s.bytes - 8 * i → left < 8 → Ok (w % 2 ^ (8 * left)) ≡ word_in_slice (of_bytes (contents (slice_in ws s)) ∷ []) k i
-  run-word-part k i w left p e q l =
-      let a = element-found (slice_in ws s).words i w 0 e in
+  pub run-word_part : (k i w left : ℕ) → k ≤ 0 → Ok w ≡ element (slice_in ws s).words i → left ≡ s.bytes - 8 * i → left < 8 → Ok (w % 2 ^ (8 * left)) ≡ word_in_slice (of_bytes (contents (slice_in ws s)) ∷ []) k i
+  run-word_part k i w left p e q l =
+      let a = element_found (slice_in ws s).words i w 0 e in
       let m : 8 * i < s.bytes = omega (arith, a.0, h.accepted.formed.0.1) in
-      one_word (contents (slice_in ws s)) k s.bytes i (run-slice k p) (w % 2 ^ (8 * left)) m (word-part (slice_in ws s) i w e left (omega arith) (omega arith))
+      one_word (contents (slice_in ws s)) k s.bytes i (run_slice k p) (w % 2 ^ (8 * left)) m (word_part (slice_in ws s) i w e left (omega arith) (omega arith))
 
-  pub run-word-past : (k i : ℕ) (f : Fault) → k ≤ 0 → Err f ≡ element (slice_in ws s).words i → Err f ≡ word_in_slice (of_bytes (contents (slice_in ws s)) ∷ []) k i
-  run-word-past k i f p e =
-      let l = past-from-err (slice_in ws s).words i f e in
-      let q : f ≡ refuse OutOfRange 0 = cc (e, element-past (slice_in ws s).words i l) in
-      one-word-past (contents (slice_in ws s)) k s.bytes i (run-slice k p) f (inr (omega (arith, l, h.accepted.formed.0.1))) q
+  pub run-word_past : (k i : ℕ) (f : Fault) → k ≤ 0 → Err f ≡ element (slice_in ws s).words i → Err f ≡ word_in_slice (of_bytes (contents (slice_in ws s)) ∷ []) k i
+  run-word_past k i f p e =
+      let l = past_from_err (slice_in ws s).words i f e in
+      let q : f ≡ refuse OutOfRange 0 = cc (e, element_past (slice_in ws s).words i l) in
+      one_word_past (contents (slice_in ws s)) k s.bytes i (run_slice k p) f (inr (omega (arith, l, h.accepted.formed.0.1))) q

@@ -2,10 +2,10 @@
 use Rattle.std.proofs.Common.{◌≤◌, Bool, List, length, Some, ap, ◌∙◌, subst, arith}
 use Rattle.column.specs.Kind.{CAP, Format, Held, Laws}
 use Rattle.decode.specs.Decode.{slices_of}
-use Rattle.decode.proofs.DecodeLemmas.{asked-uncounted}
+use Rattle.decode.proofs.DecodeLemmas.{asked_uncounted}
 use Rattle.indexed.proofs.ImageLemmas.{length-image}
 use Rattle.stash.specs.Claim.{Claim, image_of}
-use Rattle.stash.proofs.AdmitLemmas.{admission-parts, admitted-accepted, image-admitted, words-hold, written-accepted}
+use Rattle.stash.proofs.AdmitLemmas.{admission_parts, admitted-accepted, image-admitted, words_hold, written-accepted}
 use Rattle.stash.proofs.HistoryLemmas.{history-holds}
 
 module _ {E : Type 0} (fits : E → Bool) (F : Format E) (laws : Laws fits F) where
@@ -19,5 +19,5 @@ module _ {E : Type 0} (fits : E → Bool) (F : Format E) (laws : Laws fits F) wh
             let v = written-accepted fits F laws ys (history-holds fits F laws t c.history).1 in
             let b = image-admitted F (F.writing ys) ys v (subst (λ us. length us ≤ CAP) c.image c.short) in
             (λ e. cc, λ e. c.image ∙ ap (image_of fits F) e);
-        least = λ vs u b. let v = admitted-accepted F vs xs u b in omega (arith, laws.least (slices_of vs) xs v, w.count, v.count, length-image (F.writing xs), length-image (slices_of vs), words-hold vs (asked-uncounted (Some F.slots) vs (admission-parts F vs xs b).0));
+        least = λ vs u b. let v = admitted-accepted F vs xs u b in omega (arith, laws.least (slices_of vs) xs v, w.count, v.count, length-image (F.writing xs), length-image (slices_of vs), words_hold vs (asked_uncounted (Some F.slots) vs (admission_parts F vs xs b).0));
       }

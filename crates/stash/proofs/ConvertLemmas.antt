@@ -13,19 +13,19 @@ use Rattle.stash.proofs.ClaimLemmas.{claim}
 use Rattle.stash.proofs.HistoryLemmas.{history-holds}
 
 module _ {E : Type 0} (F : Format E) (t : Areas → List E → E → Bool) where
-  all-taken : {X : Type 0} (b : Areas) (xs : List E) (x y : X) → append_answer (t b) [] xs ≡ Ok tt → cond (takes_all F t b xs) x y ≡ x
-  all-taken b xs x y e = grind (arith, nat_tests)
+  all_taken : {X : Type 0} (b : Areas) (xs : List E) (x y : X) → append_answer (t b) [] xs ≡ Ok tt → cond (takes_all F t b xs) x y ≡ x
+  all_taken b xs x y e = grind (arith, nat_tests)
 
   -- what `make_typed` accepts
-  pub made-typed : (T : Table E) (b : Areas) → answer F t T (typed_answer b) ≡ Ok tt → (a : Areas) × (after F t T (typed_answer b) ≡ typed a (holds F t T))
-  made-typed (typed a xs) b e = (a, refl)
-  made-typed (bytes ws) b e = (b, all-taken b (holds F t (bytes ws)) _ _ e)
-  made-typed (align ws) b e = (b, all-taken b (holds F t (align ws)) _ _ e)
+  pub made_typed : (T : Table E) (b : Areas) → answer F t T (typed_answer b) ≡ Ok tt → (a : Areas) × (after F t T (typed_answer b) ≡ typed a (holds F t T))
+  made_typed (typed a xs) b e = (a, refl)
+  made_typed (bytes ws) b e = (b, all_taken b (holds F t (bytes ws)) _ _ e)
+  made_typed (align ws) b e = (b, all_taken b (holds F t (align ws)) _ _ e)
 
   module _ {W X : Type 0} (took : W → List ℕ) (room : W → ℕ) (beyond : W → List ℕ) (fault : W → List ℕ → X) (fits : E → Bool) (laws : Laws fits F) where
     pub owed : (T : Table E) (b : Areas) (s u : W) → answer F t T (typed_answer b) ≡ Ok tt → TableWritten took room beyond fault F (after F t T (typed_answer b)) s u (Ok tt) → Owed took room beyond fault fits F t T s u
     owed T b s u e w xs h =
-        let (a, q) = made-typed T b e in
+        let (a, q) = made_typed T b e in
         let k = history-holds fits F laws t h in
         let v : Written took room beyond fault (F.writing xs) s u (Ok tt) = subst (λ ys. Written took room beyond fault (F.writing ys) s u (Ok tt)) k.0 (subst (λ V. TableWritten took room beyond fault F V s u (Ok tt)) q w) in
         let l : length (image_of fits F xs) ≤ CAP = ⊎_elim (λ m. absurd (let r = (v.long m).0 in let z : ◌≡◌ {A = ℕ} 0 1 = cc in omega arith)) (λ m. m) (cases_lt CAP (length (image_of fits F xs))) in

@@ -21,19 +21,19 @@ module _ {E : Type 0} (F : Format E) (t : Areas → List E → E → Bool) where
   abbrev more : List E → List E → Result (Unit {0}) Fault → List E
   more xs ys r = elim r [ Ok u ↦ xs ++ ys | Err f ↦ xs ++ take (added F t f) ys ]
 
-  more-taken : (b : Bool) (xs ys : List E) (n : ℕ) → cond b (xs ++ take n ys) xs ≡ more xs ys (cond b (cond (eqb n (length ys)) (Ok tt) (Err (refuse NotTaken n))) (Err (refuse OutOfRange 0)))
-  more-taken false xs ys n = sym (append-nil xs)
-  more-taken true xs ys n = cond_both (eqb n (length ys)) (Ok tt) (Err (refuse NotTaken n)) (λ r. xs ++ take n ys ≡ more xs ys r) (λ e. ap (λ zs. xs ++ zs) (take_all n ys (omega (arith, eqb-true n (length ys) e)))) (λ e. refl)
+  more_taken : (b : Bool) (xs ys : List E) (n : ℕ) → cond b (xs ++ take n ys) xs ≡ more xs ys (cond b (cond (eqb n (length ys)) (Ok tt) (Err (refuse NotTaken n))) (Err (refuse OutOfRange 0)))
+  more_taken false xs ys n = sym (append-nil xs)
+  more_taken true xs ys n = cond_both (eqb n (length ys)) (Ok tt) (Err (refuse NotTaken n)) (λ r. xs ++ take n ys ≡ more xs ys r) (λ e. ap (λ zs. xs ++ zs) (take_all n ys (omega (arith, eqb-true n (length ys) e)))) (λ e. refl)
 
-  range-recorded : (a : Areas) (xs ys : List E) (i j : ℕ) → range_appended (t a) xs ys i j ≡ more xs (between i j ys) (range_answer (t a) xs ys i j)
-  range-recorded a xs ys i j = more-taken (leb j (length ys)) xs (between i j ys) (taken (t a) xs (between i j ys))
+  range_recorded : (a : Areas) (xs ys : List E) (i j : ℕ) → range_appended (t a) xs ys i j ≡ more xs (between i j ys) (range_answer (t a) xs ys i j)
+  range_recorded a xs ys i j = more_taken (leb j (length ys)) xs (between i j ys) (taken (t a) xs (between i j ys))
 
   -- of a whole list to an empty one, in the areas a, that answers r and leaves the list zs
   pub whole : (a b : Areas) → a ≡ b → (ys xs zs : List E) → ys ≡ [] → (n : ℕ) → n ≡ length xs → (r : Result (Unit {0}) Fault) → r ≡ range_answer (t a) ys xs 0 n → zs ≡ range_appended (t a) ys xs 0 n → (r ≡ append_answer (t b) [] xs) × (r ≡ Ok tt → zs ≡ xs)
   whole a b p ys xs zs q n l r h e =
       let w = between_to_end xs 0 n (omega arith) in (
         h ∙ rw (w, p, q, le-leb n (length xs) (omega arith)),
-        λ o. e ∙ range-recorded a ys xs 0 n ∙ ap (more ys (between 0 n xs)) (sym h ∙ o) ∙ rw (q, w),
+        λ o. e ∙ range_recorded a ys xs 0 n ∙ ap (more ys (between 0 n xs)) (sym h ∙ o) ∙ rw (q, w),
       )
 
 -- a push, by its answer
@@ -46,8 +46,8 @@ module _ {E : Type 0} (F : Format E) where
   abbrev Stored : List ℕ → List E → Type 0
   Stored ws xs = (admission F ws ≡ Ok xs) × Accepted F (slices_of ws) xs
 
-  image-stored : (ss : List Slice) (xs : List E) → Accepted F ss xs → length (image ss) ≤ CAP → Stored (image ss) xs
-  image-stored ss xs a l = (image-admitted F ss xs a l, subst (λ us. Accepted F us xs) (sym (image-decoded ss a.formed l).1) a)
+  image_stored : (ss : List Slice) (xs : List E) → Accepted F ss xs → length (image ss) ≤ CAP → Stored (image ss) xs
+  image_stored ss xs a l = (image-admitted F ss xs a l, subst (λ us. Accepted F us xs) (sym (image-decoded ss a.formed l).1) a)
 
   -- a table with this list
   abbrev Keeps : Table E → List E → Type 0
@@ -55,9 +55,9 @@ module _ {E : Type 0} (F : Format E) where
   Keeps (bytes ws) xs = Stored ws xs
   Keeps (align ws) xs = Stored ws xs
 
-  keeps-if : (r : Result (List E) Fault) (y T : Table E) (xs : List E) → ((zs : List E) → r ≡ Ok zs → Keeps y xs) → Keeps T xs → Keeps (if_ok r y T) xs
-  keeps-if (Ok zs) y T xs f k = f zs refl
-  keeps-if (Err e) y T xs f k = k
+  keeps_if : (r : Result (List E) Fault) (y T : Table E) (xs : List E) → ((zs : List E) → r ≡ Ok zs → Keeps y xs) → Keeps T xs → Keeps (if_ok r y T) xs
+  keeps_if (Ok zs) y T xs f k = f zs refl
+  keeps_if (Err e) y T xs f k = k
 
   module _ (t : Areas → List E → E → Bool) where
     keeps-holds : (T : Table E) (xs : List E) → Keeps T xs → holds F t T ≡ xs
@@ -70,40 +70,40 @@ module _ {E : Type 0} (F : Format E) where
 
 module _ {E : Type 0} (fits : E → Bool) (F : Format E) (laws : Laws fits F) (t : Areas → List E → E → Bool) where
   -- what the first step of a reload writes, and of `make_aligned`, reads as the same list
-  typed-stored : (ys xs : List E) → ys ≡ xs → Held fits xs → length (image (F.writing ys)) ≤ CAP → Stored F (image (F.writing ys)) xs
-  typed-stored ys xs k h = rw k (image-stored F (F.writing xs) xs (written-accepted fits F laws xs h))
+  typed_stored : (ys xs : List E) → ys ≡ xs → Held fits xs → length (image (F.writing ys)) ≤ CAP → Stored F (image (F.writing ys)) xs
+  typed_stored ys xs k h = rw k (image_stored F (F.writing xs) xs (written-accepted fits F laws xs h))
 
-  written-stored : (T : Table E) (xs : List E) → Keeps F T xs → Held fits xs → length (written F t T) ≤ CAP → Stored F (written F t T) xs
-  written-stored (typed a ys) xs k h = typed-stored ys xs k h
-  written-stored (bytes ws) xs k h = λ l. k
-  written-stored (align ws) xs k h = λ l. k
+  written_stored : (T : Table E) (xs : List E) → Keeps F T xs → Held fits xs → length (written F t T) ≤ CAP → Stored F (written F t T) xs
+  written_stored (typed a ys) xs k h = typed_stored ys xs k h
+  written_stored (bytes ws) xs k h = λ l. k
+  written_stored (align ws) xs k h = λ l. k
 
-  encoded-stored : (T : Table E) (xs : List E) → Keeps F T xs → Held fits xs → length (encoded F t T) ≤ CAP → Stored F (encoded F t T) xs
-  encoded-stored (typed a ys) xs k h = typed-stored ys xs k h
-  encoded-stored (bytes ws) xs k h = image-stored F (F.giving (slices_of ws)) xs (laws.given (slices_of ws) xs k.1).0
-  encoded-stored (align ws) xs k h = λ l. k
+  encoded_stored : (T : Table E) (xs : List E) → Keeps F T xs → Held fits xs → length (encoded F t T) ≤ CAP → Stored F (encoded F t T) xs
+  encoded_stored (typed a ys) xs k h = typed_stored ys xs k h
+  encoded_stored (bytes ws) xs k h = image_stored F (F.giving (slices_of ws)) xs (laws.given (slices_of ws) xs k.1).0
+  encoded_stored (align ws) xs k h = λ l. k
 
   -- words that are stored, if they are what was written
-  admitted-stored : (ws vs : List ℕ) (xs zs : List E) → ws ≡ vs → (length vs ≤ CAP → Stored F vs xs) → admission F ws ≡ Ok zs → Stored F ws xs
-  admitted-stored ws vs xs zs u f e = subst (λ us. length us ≤ CAP → Stored F us xs) (sym u) f (admitted-short F ws zs e)
+  admitted_stored : (ws vs : List ℕ) (xs zs : List E) → ws ≡ vs → (length vs ≤ CAP → Stored F vs xs) → admission F ws ≡ Ok zs → Stored F ws xs
+  admitted_stored ws vs xs zs u f e = subst (λ us. length us ≤ CAP → Stored F us xs) (sym u) f (admitted-short F ws zs e)
 
   step : (T : Table E) (xs : List E) (k : Call E) → Keeps F T xs → Held fits xs → Undisturbed F t T k → Keeps F (after F t T k) (recorded F t T xs k)
   step (typed a ys) xs (push x) k h u = rw (← k) (push-recorded (t a ys x) ys x)
-  step (typed a ys) xs (append zs i j) k h u = rw (← k) (range-recorded F t a ys zs i j)
+  step (typed a ys) xs (append zs i j) k h u = rw (← k) (range_recorded F t a ys zs i j)
   step (typed a ys) xs clear k h u = refl
   step (typed a ys) xs (typed_answer b) k h u = k
-  step (typed a ys) xs (store_aligned vs) k h u = keeps-if F (admission F vs) (align vs) (typed a ys) xs (λ zs. admitted-stored vs _ xs zs u (encoded-stored (typed a ys) xs k h)) k
+  step (typed a ys) xs (store_aligned vs) k h u = keeps_if F (admission F vs) (align vs) (typed a ys) xs (λ zs. admitted_stored vs _ xs zs u (encoded_stored (typed a ys) xs k h)) k
   step (bytes ws) xs (push x) k h u = k
   step (bytes ws) xs (append zs i j) k h u = rw append-nil k
   step (bytes ws) xs clear k h u = k
   step (bytes ws) xs (typed_answer b) k h u = keeps_typed F t (bytes ws) xs b k
-  step (bytes ws) xs (store_aligned vs) k h u = keeps-if F (admission F vs) (align vs) (bytes ws) xs (λ zs. admitted-stored vs _ xs zs u (encoded-stored (bytes ws) xs k h)) k
+  step (bytes ws) xs (store_aligned vs) k h u = keeps_if F (admission F vs) (align vs) (bytes ws) xs (λ zs. admitted_stored vs _ xs zs u (encoded_stored (bytes ws) xs k h)) k
   step (align ws) xs (push x) k h u = k
   step (align ws) xs (append zs i j) k h u = rw append-nil k
   step (align ws) xs clear k h u = k
   step (align ws) xs (typed_answer b) k h u = keeps_typed F t (align ws) xs b k
   step (align ws) xs (store_aligned vs) k h u = k
-  step T xs (store_bytes vs) k h u = keeps-if F (admission F vs) (bytes vs) T xs (λ zs. admitted-stored vs _ xs zs u (written-stored T xs k h)) k
+  step T xs (store_bytes vs) k h u = keeps_if F (admission F vs) (bytes vs) T xs (λ zs. admitted_stored vs _ xs zs u (written_stored T xs k h)) k
 
   kept : {T : Table E} {xs : List E} → History F t fits T xs → Keeps F T xs × Held fits xs
   kept (fresh a) = (refl, (refl, omega arith))

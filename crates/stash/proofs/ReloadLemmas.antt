@@ -20,15 +20,15 @@ marked {m} {n} {us} vs e room bs h = rw (e, h) (cond_both (leb (length bs) room)
 
 -- what a table gives a sink, by whether it has an image
 module _ {W X : Type 0} (taken : W → List ℕ) (room : W → ℕ) (beyond : W → List ℕ) (fault : W → List ℕ → X) {E : Type 0} (F : Format E) where
-  table-short : (T : Table E) (s u : W) (r : Result (Unit {0}) (WriteFault X)) → TableWritten taken room beyond fault F T s u r → has_image F T ≡ true → Given taken room beyond fault (table_pieces F T) s u r
-  table-short (typed a xs) s u r w h = w.short (leb-true _ _ h)
-  table-short (bytes ws) s u r w h = w
-  table-short (align ws) s u r w h = w
+  table_short : (T : Table E) (s u : W) (r : Result (Unit {0}) (WriteFault X)) → TableWritten taken room beyond fault F T s u r → has_image F T ≡ true → Given taken room beyond fault (table_pieces F T) s u r
+  table_short (typed a xs) s u r w h = w.short (leb-true _ _ h)
+  table_short (bytes ws) s u r w h = w
+  table_short (align ws) s u r w h = w
 
-  table-long : (T : Table E) (s u : W) (r : Result (Unit {0}) (WriteFault X)) → TableWritten taken room beyond fault F T s u r → has_image F T ≡ false → (r ≡ Err (TooLong (refuse ImageTooLong 0))) × (u ≡ s)
-  table-long (typed a xs) s u r w h = w.long (leb-false _ _ h)
-  table-long (bytes ws) s u r w h = absurd (true≢false h)
-  table-long (align ws) s u r w h = absurd (true≢false h)
+  table_long : (T : Table E) (s u : W) (r : Result (Unit {0}) (WriteFault X)) → TableWritten taken room beyond fault F T s u r → has_image F T ≡ false → (r ≡ Err (TooLong (refuse ImageTooLong 0))) × (u ≡ s)
+  table_long (typed a xs) s u r w h = w.long (leb-false _ _ h)
+  table_long (bytes ws) s u r w h = absurd (true≢false h)
+  table_long (align ws) s u r w h = absurd (true≢false h)
 
 -- the answer of a reload, by that of the write and the number of bytes that were taken
 abbrev pub counted : {X : Type 0} → Result (Unit {0}) X → ℕ → Result ℕ X
@@ -47,7 +47,7 @@ module _ {W : Type 0} (taken : W → List ℕ) (room : W → ℕ) (beyond : W �
       let head : List ℕ → ℕ = λ xs. get_or xs 0 0 in
       record {
         short = λ h.
-            let v = table-short taken room beyond fault F T s u r w h in
+            let v = table_short taken room beyond fault F T s u r w h in
             let ps = table_pieces F T in
             let all : k ∷ front ≡ m ∷ bytes_given (length before) ps = sym e ∙ v.1.bytes ∙ rw (a, b) in
             let f : front ≡ bytes_given (length before) ps = ap (drop 1) all in
@@ -56,7 +56,7 @@ module _ {W : Type 0} (taken : W → List ℕ) (room : W → ℕ) (beyond : W �
               same (sym (ap head all)) ∙ rw (f, rest),
             );
         long = λ h.
-            let v = table-long taken room beyond fault F T s u r w h in
+            let v = table_long taken room beyond fault F T s u r w h in
             let all : k ∷ front ≡ m ∷ [] = sym e ∙ ap taken v.1 ∙ a in
             let f : front ≡ [] = ap (drop 1) all in
             (rw v.0, same (sym (ap head all)) ∙ rw (f, v.1, d));

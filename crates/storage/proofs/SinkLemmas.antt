@@ -7,7 +7,7 @@ use Rattle.std.proofs.lemmas.List.{take_more, take_more_set, drop-set-lt, set-ap
 use Rattle.std.proofs.lemmas.Bool.{le-leb}
 use Rattle.area.specs.Digits.{number, digits}
 use Rattle.area.specs.Slice.{spill}
-use Rattle.area.proofs.DigitLemmas.{all-length-digits, digits-number-all, digits-under, length_digits}
+use Rattle.area.proofs.DigitLemmas.{all_length-digits, digits-number_all, digits_under, length_digits}
 use Rattle.area.proofs.JoinLemmas.{eight}
 use Rattle.area.proofs.SliceLemmas.{length-spill}
 use Rattle.storage.specs.Sink.{piece_answer, taking, leaving, room_after}
@@ -22,8 +22,8 @@ module _ (old : List ℕ) (a : ℕ) (bs : List ℕ) where
   pub written_none : Written old a bs old 0
   written_none = record { front = rw add-zero (sym (append-nil (take a old))); rest = refl; long = refl }
 
-  pub written-more : (new : List ℕ) (i p : ℕ) → Written old a bs new i → p ≡ a + i → i < length bs → p < length old → Written old a bs (set new p (get_or bs i 0)) (i + 1)
-  written-more new i p w e h l =
+  pub written_more : (new : List ℕ) (i p : ℕ) → Written old a bs new i → p ≡ a + i → i < length bs → p < length old → Written old a bs (set new p (get_or bs i 0)) (i + 1)
+  written_more new i p w e h l =
       let k : p < length new = omega arith in
       let m : p < a + (i + 1) = omega arith in
       let q : a + (i + 1) ≡ p + 1 = omega arith in
@@ -44,40 +44,40 @@ module _ (old : List ℕ) (a : ℕ) (bs new : List ℕ) (i p : ℕ) (w : Written
   pub room_whole : length new - p ≡ room_after (length old - a) bs
   room_whole = rw (le-leb _ _ fits) (omega arith)
 
-  pub beyond-whole : drop p new ≡ leaving (length old - a) (drop a old) bs
-  beyond-whole = rw (le-leb _ _ fits, here, drop-drop, ← all) w.rest
+  pub beyond_whole : drop p new ≡ leaving (length old - a) (drop a old) bs
+  beyond_whole = rw (le-leb _ _ fits, here, drop-drop, ← all) w.rest
 
 pub answer-whole : {F : Type 0} (f : F) (room : ℕ) (bs : List ℕ) → length bs ≤ room → Ok tt ≡ piece_answer room bs f
 answer-whole f room bs fits = rw (le-leb _ _ fits)
 
 -- Words as bytes: one byte of one word replaced.
-set-joined : {X A : Type 0} (f : X → List A) (k : ℕ) (xs : List X) (i j : ℕ) (x e : X) (b : A) → AllByRecursion (λ y. length (f y) ≡ k) xs → i < length xs → j < k → f x ≡ set (f (get_or xs i e)) j b → flat_map f (set xs i x) ≡ set (flat_map f xs) (k * i + j) b
-set-joined f k [] i j x e b h l m q = absurd (omega arith)
-set-joined f k (y ∷ xs) zero j x e b h l m q =
+set_joined : {X A : Type 0} (f : X → List A) (k : ℕ) (xs : List X) (i j : ℕ) (x e : X) (b : A) → AllByRecursion (λ y. length (f y) ≡ k) xs → i < length xs → j < k → f x ≡ set (f (get_or xs i e)) j b → flat_map f (set xs i x) ≡ set (flat_map f xs) (k * i + j) b
+set_joined f k [] i j x e b h l m q = absurd (omega arith)
+set_joined f k (y ∷ xs) zero j x e b h l m q =
     rw (mul-zero, zero-add, q) (sym (set-append_left (f y) (flat_map f xs) j b (omega (arith, h.0))))
-set-joined f k (y ∷ xs) (suc i) j x e b h l m q =
+set_joined f k (y ∷ xs) (suc i) j x e b h l m q =
     let r : k * suc i + j - k ≡ k * i + j = omega (arith, mul-suc k i) in
-    ap (λ zs. f y ++ zs) (set-joined f k xs i j x e b h.1 (omega arith) m q)
+    ap (λ zs. f y ++ zs) (set_joined f k xs i j x e b h.1 (omega arith) m q)
     ∙ (ap (λ n. f y ++ set (flat_map f xs) n b) (sym r) ∙ sym (set-append_right (f y) (flat_map f xs) k (k * suc i + j) b h.0 (omega (arith, mul-suc k i))))
 
 pub spill-set : (ws : List ℕ) (i j w b : ℕ) → i < length ws → j < 8 → digits 256 8 w ≡ set (digits 256 8 (get_or ws i 0)) j b → spill (set ws i w) ≡ set (spill ws) (8 * i + j) b
-spill-set ws i j w b l m q = set-joined (digits 256 8) 8 ws i j w 0 b (all-length-digits 256 8 ws) l m q
+spill-set ws i j w b l m q = set_joined (digits 256 8) 8 ws i j w 0 b (all_length-digits 256 8 ws) l m q
 
 -- one more byte of a piece goes into byte j of word k
-pub written-more-word : (old : List ℕ) (a : ℕ) (bs ws : List ℕ) (i k j w : ℕ) → Written (spill old) a bs (spill ws) i → 8 * k + j ≡ a + i → i < length bs → length bs ≤ length (spill old) - a → j < 8 → digits 256 8 w ≡ set (digits 256 8 (get_or ws k 0)) j (get_or bs i 0) → Written (spill old) a bs (spill (set ws k w)) (i + 1)
-written-more-word old a bs ws i k j w h e l fits m q =
+pub written_more_word : (old : List ℕ) (a : ℕ) (bs ws : List ℕ) (i k j w : ℕ) → Written (spill old) a bs (spill ws) i → 8 * k + j ≡ a + i → i < length bs → length bs ≤ length (spill old) - a → j < 8 → digits 256 8 w ≡ set (digits 256 8 (get_or ws k 0)) j (get_or bs i 0) → Written (spill old) a bs (spill (set ws k w)) (i + 1)
+written_more_word old a bs ws i k j w h e l fits m q =
     let p : 8 * k + j < length (spill old) = omega arith in
     let n : k < length ws = omega (arith, h.long, length-spill ws) in
-    subst (λ xs. Written (spill old) a bs xs (i + 1)) (sym (spill-set ws k j w (get_or bs i 0) n m q)) (written-more (spill old) a bs (spill ws) i (8 * k + j) h e l p)
+    subst (λ xs. Written (spill old) a bs xs (i + 1)) (sym (spill-set ws k j w (get_or bs i 0) n m q)) (written_more (spill old) a bs (spill ws) i (8 * k + j) h e l p)
 
 -- the bytes of a word as `to_le_bytes` gives them
 pub bytes_of : (w : ℕ) → digits 256 8 w ≡ (w % 256) ∷ (w / 256 % 256) ∷ (w / 65536 % 256) ∷ (w / 16777216 % 256) ∷ (w / 4294967296 % 256) ∷ (w / 1099511627776 % 256) ∷ (w / 281474976710656 % 256) ∷ (w / 72057594037927936 % 256) ∷ []
 bytes_of w = simp div-div-eq-div-mul
 
 -- and joined again by `from_le_bytes` after one was replaced
-pub byte-set : (w j b r : ℕ) (bs : List ℕ) → bs ≡ digits 256 8 w → b < 256 → r ≡ get_or (set bs j b) 0 0 + get_or (set bs j b) 1 0 * 256 + get_or (set bs j b) 2 0 * 65536 + get_or (set bs j b) 3 0 * 16777216 + get_or (set bs j b) 4 0 * 4294967296 + get_or (set bs j b) 5 0 * 1099511627776 + get_or (set bs j b) 6 0 * 281474976710656 + get_or (set bs j b) 7 0 * 72057594037927936 → digits 256 8 r ≡ set (digits 256 8 w) j b
-byte-set w j b r bs e h q =
+pub byte_set : (w j b r : ℕ) (bs : List ℕ) → bs ≡ digits 256 8 w → b < 256 → r ≡ get_or (set bs j b) 0 0 + get_or (set bs j b) 1 0 * 256 + get_or (set bs j b) 2 0 * 65536 + get_or (set bs j b) 3 0 * 16777216 + get_or (set bs j b) 4 0 * 4294967296 + get_or (set bs j b) 5 0 * 1099511627776 + get_or (set bs j b) 6 0 * 281474976710656 + get_or (set bs j b) 7 0 * 72057594037927936 → digits 256 8 r ≡ set (digits 256 8 w) j b
+byte_set w j b r bs e h q =
     let l : length (set bs j b) ≡ 8 = length-set bs j b ∙ (ap length e ∙ length_digits 256 8 w) in
-    let under : AllByRecursion (λ d. d < 256) bs = subst (AllByRecursion (λ d. d < 256)) (sym e) (digits-under 256 8 w (lit< tt)) in
+    let under : AllByRecursion (λ d. d < 256) bs = subst (AllByRecursion (λ d. d < 256)) (sym e) (digits_under 256 8 w (lit< tt)) in
     let n : r ≡ number 256 (set bs j b) = q ∙ (sym (eight (set bs j b) 0 (omega arith)) ∙ ap (number 256) (take_all 8 (set bs j b) (omega arith))) in
-    ap (digits 256 8) n ∙ (digits-number-all 256 (set bs j b) 8 (All-set (λ d. d < 256) bs j b h under) l ∙ ap (λ xs. set xs j b) e)
+    ap (digits 256 8) n ∙ (digits-number_all 256 (set bs j b) 8 (All-set (λ d. d < 256) bs j b h under) l ∙ ap (λ xs. set xs j b) e)

@@ -5,23 +5,23 @@ use Rattle.std.specs.List.{AllByRecursion}
 use Rattle.std.proofs.lemmas.List.{take_more}
 use Rattle.std.proofs.lemmas.Bool.{le-leb, leb-true}
 use Rattle.area.specs.Slice.{Slice, ZeroPadded, weight}
-use Rattle.area.proofs.SliceLemmas.{of_words-formed, of_words-padded}
+use Rattle.area.proofs.SliceLemmas.{of_words-formed, of_words_padded}
 use Rattle.tuple.specs.Empties.{empties_format}
 use Rattle.column.specs.Kind.{Accepted, Held, L, Laws, reads, slot, word_of}
-use Rattle.tuple.proofs.EmptiesLemmas.{every-empty}
+use Rattle.tuple.proofs.EmptiesLemmas.{every_empty}
 use Rattle.column.specs.KindLemmas.{in_bounds, least_words_lem}
 
 -- empties differ in their count alone
-replicate-unit : (xs : List (Unit {0})) → replicate (length xs) tt ≡ xs
-replicate-unit [] = refl
-replicate-unit (x ∷ xs) = ap (λ ys. tt ∷ ys) (replicate-unit xs)
+replicate_unit : (xs : List (Unit {0})) → replicate (length xs) tt ≡ xs
+replicate_unit [] = refl
+replicate_unit (x ∷ xs) = ap (λ ys. tt ∷ ys) (replicate_unit xs)
 
 sound : (ss : List Slice) (xs : List (Unit {0})) → Accepted empties_format ss xs → Held (λ (_ : Unit {0}). true) xs
 sound [] xs a = absurd (omega arith)
 sound (s ∷ []) xs a =
     let n : ℕ = word_of s 0 in
     let r = in_bounds (leb n L) (replicate n tt) xs a.reading in (
-      every-empty xs,
+      every_empty xs,
       rw (← r.1, length-replicate) (leb-true n L r.0),
     )
 sound (s ∷ t ∷ ss) xs a = absurd (omega arith)
@@ -39,13 +39,13 @@ given ss xs a =
     let one : take 1 s.words ≡ n ∷ [] = take_more s.words 0 0 (least_words_lem 1 0 s a.fitting) in
     rw one (
       record { count = refl; formed = (of_words-formed (n ∷ []) (omega (arith, leb-true n L r.0), tt), tt); fitting = refl; reading = a.reading },
-      (of_words-padded (n ∷ []), tt),
+      (of_words_padded (n ∷ []), tt),
     )
 
-pub empties-laws : Laws (λ (_ : Unit {0}). true) empties_format
-empties-laws = record {
-  shape = λ xs h. (refl, (of_words-formed (length xs ∷ []) (omega (arith, h.1), tt), tt), (of_words-padded (length xs ∷ []), tt));
-  return = λ xs h. (refl, rw (le-leb (length xs) L h.1) (ap reads (replicate-unit xs)));
+pub empties_laws : Laws (λ (_ : Unit {0}). true) empties_format
+empties_laws = record {
+  shape = λ xs h. (refl, (of_words-formed (length xs ∷ []) (omega (arith, h.1), tt), tt), (of_words_padded (length xs ∷ []), tt));
+  return = λ xs h. (refl, rw (le-leb (length xs) L h.1) (ap reads (replicate_unit xs)));
   sound = sound;
   least = least;
   given = given;

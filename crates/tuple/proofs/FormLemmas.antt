@@ -11,8 +11,8 @@ use Rattle.column.specs.KindLemmas.{in_bounds, neither}
 use Rattle.decode.specs.Decode.{slice_in}
 use Rattle.decode.specs.declared.decoded.DecodedStore.{DecodedStore}
 use Rattle.read.specs.Form.{Stands, There, form_answer, list_of, slices_within, words_in}
-use Rattle.read.proofs.FormLemmas.{there-count}
-use Rattle.read.proofs.PlaceLemmas.{Made, bounds-err, bounds_ok, form-err, made, slices-left, slices-right, there-left, there-right}
+use Rattle.read.proofs.FormLemmas.{there_count}
+use Rattle.read.proofs.PlaceLemmas.{Made, bounds_err, bounds_ok, form_err, made, slices_left, slices_right, there_left, there_right}
 use Rattle.read.proofs.StandLemmas.{stands}
 use Rattle.tuple.specs.Empties.{empties_format}
 use Rattle.tuple.specs.Form.{EmptiesKept, PairKept, pair_slices}
@@ -20,10 +20,10 @@ use Rattle.tuple.specs.Pair.{firsts, seconds, tuples, pair_format}
 use Rattle.tuple.specs.declared.form.EmptiesForm.{EmptiesForm}
 use Rattle.tuple.specs.declared.form.PairForm.{PairForm}
 use Rattle.tuple.proofs.PairLaws.{sides}
-use Rattle.tuple.proofs.PairLemmas.{tuples-parts}
+use Rattle.tuple.proofs.PairLemmas.{tuples_parts}
 
-pub empties-list : (t : EmptiesForm) (ws : List ℕ) → Stands (λ u vs. slice_in vs u.place ∷ []) EmptiesKept empties_format t ws → replicate t.count tt ≡ list_of empties_format (slice_in ws t.place ∷ [])
-empties-list t ws s =
+pub empties_list : (t : EmptiesForm) (ws : List ℕ) → Stands (λ u vs. slice_in vs u.place ∷ []) EmptiesKept empties_format t ws → replicate t.count tt ≡ list_of empties_format (slice_in ws t.place ∷ [])
+empties_list t ws s =
     let w = word_of (slice_in ws t.place) 0 in
     ap (λ n. replicate n tt) s.keeps.count ∙ (in_bounds (leb w L) (replicate w tt) _ s.accepted.reading).1
 
@@ -53,7 +53,7 @@ module _ {A B X Y : Type 0} (f : X → List ℕ → List Slice) (g : Y → List 
         left = u.0;
         right = v.0;
         level = ap length u.1 ∙ length-map xs (λ x. x.0) ∙ sym (ap length v.1 ∙ length-map xs (λ x. x.1));
-        list = ap₂ tuples u.1 v.1 ∙ tuples-parts xs;
+        list = ap₂ tuples u.1 v.1 ∙ tuples_parts xs;
         giving = ap₂ (λ us vs. F.giving us ++ G.giving vs) l r;
       }
 
@@ -75,56 +75,56 @@ module _ {S A B X Y : Type 0} (w : S → List ℕ) (d : DecodedStore S) (f : X �
   Second r = There w d b G.slots → G.sized (slices_within w d b G.slots) ≡ None → form_answer g q ws (slices_within w d b G.slots) b (G.reading (slices_within w d b G.slots)) r
 
   left : take F.slots ss ≡ slices_within w d a F.slots
-  left = slices-left w d a F.slots G.slots
+  left = slices_left w d a F.slots G.slots
 
   right : drop F.slots ss ≡ slices_within w d b G.slots
-  right = slices-right w d a F.slots G.slots b e
+  right = slices_right w d a F.slots G.slots b e
 
-  pub there-first : There w d a F.slots
-  there-first = there-left w d a F.slots G.slots t
+  pub there_first : There w d a F.slots
+  there_first = there_left w d a F.slots G.slots t
 
-  pub there-second : There w d b G.slots
-  there-second = there-right w d a F.slots G.slots b e t
+  pub there_second : There w d b G.slots
+  there_second = there_right w d a F.slots G.slots b e t
 
   none_first : F.sized (slices_within w d a F.slots) ≡ None
   none_first = ap F.sized (sym left) ∙ (neither F.slots (F.sized (take F.slots ss)) (G.sized (drop F.slots ss)) z).0
 
-  none-second : G.sized (slices_within w d b G.slots) ≡ None
-  none-second = ap G.sized (sym right) ∙ (neither F.slots (F.sized (take F.slots ss)) (G.sized (drop F.slots ss)) z).1
+  none_second : G.sized (slices_within w d b G.slots) ≡ None
+  none_second = ap G.sized (sym right) ∙ (neither F.slots (F.sized (take F.slots ss)) (G.sized (drop F.slots ss)) z).1
 
-  pub made-first : (x : X) → First (Ok x) → Made w d f p F a there-first x
-  made-first x h = made w d f p F a there-first none_first x (h there-first none_first)
+  pub made_first : (x : X) → First (Ok x) → Made w d f p F a there_first x
+  made_first x h = made w d f p F a there_first none_first x (h there_first none_first)
 
-  pub made-second : (y : Y) → Second (Ok y) → Made w d g q G b there-second y
-  made-second y h = made w d g q G b there-second none-second y (h there-second none-second)
+  pub made_second : (y : Y) → Second (Ok y) → Made w d g q G b there_second y
+  made_second y h = made w d g q G b there_second none_second y (h there_second none_second)
 
-  pub first-refused : (v : Fault) → First (Err v) → Answer (Err v)
-  first-refused v h =
-      form-err (pair_slices f g) (PairKept f F.slots p q) ws ss f p ws (slices_within w d a F.slots) a a 0 (F.reading (take F.slots ss)) _ v (sym (add-zero a))
-      (subst (λ rs. form_answer f p ws (slices_within w d a F.slots) a (F.reading rs) (Err v)) (sym left) (h there-first none_first))
+  pub first_refused_lem : (v : Fault) → First (Err v) → Answer (Err v)
+  first_refused_lem v h =
+      form_err (pair_slices f g) (PairKept f F.slots p q) ws ss f p ws (slices_within w d a F.slots) a a 0 (F.reading (take F.slots ss)) _ v (sym (add-zero a))
+      (subst (λ rs. form_answer f p ws (slices_within w d a F.slots) a (F.reading rs) (Err v)) (sym left) (h there_first none_first))
 
-  pub second-refused : (x : X) → First (Ok x) → (v : Fault) → Second (Err v) → Answer (Err v)
-  second-refused x k v h =
-      let r : F.reading (take F.slots ss) ≡ reads (made-first x k).xs = ap F.reading left ∙ (made-first x k).reading in
+  pub second_refused : (x : X) → First (Ok x) → (v : Fault) → Second (Err v) → Answer (Err v)
+  second_refused x k v h =
+      let r : F.reading (take F.slots ss) ≡ reads (made_first x k).xs = ap F.reading left ∙ (made_first x k).reading in
       rw r
-      (form-err (pair_slices f g) (PairKept f F.slots p q) ws ss g q ws (slices_within w d b G.slots) a b F.slots (G.reading (drop F.slots ss)) _ v e
-      (subst (λ rs. form_answer g q ws (slices_within w d b G.slots) b (G.reading rs) (Err v)) (sym right) (h there-second none-second)))
+      (form_err (pair_slices f g) (PairKept f F.slots p q) ws ss g q ws (slices_within w d b G.slots) a b F.slots (G.reading (drop F.slots ss)) _ v e
+      (subst (λ rs. form_answer g q ws (slices_within w d b G.slots) b (G.reading rs) (Err v)) (sym right) (h there_second none_second)))
 
   module _ (x : X) (h : First (Ok x)) (y : Y) (k : Second (Ok y)) where
     reads_both : (pair_format F G).reading ss ≡ reading_within (eqb (length (list_of F (f x ws))) (length (list_of G (g y ws)))) (tuples (list_of F (f x ws)) (list_of G (g y ws)))
     reads_both =
-        let l = made-first x h in
-        let r = made-second y k in
+        let l = made_first x h in
+        let r = made_second y k in
         rw (ap F.reading left ∙ l.reading, ap G.reading right ∙ r.reading, l.list, r.list)
 
     pub uneven : (length (list_of F (f x ws)) ≡ length (list_of G (g y ws)) → ⊥) → (v : Fault) → v ≡ refuse SliceContent a → Answer (Err v)
-    uneven n v i = rw reads_both (bounds-err (pair_slices f g) (PairKept f F.slots p q) ws ss a _ _ v (ne_eqb _ _ n) i)
+    uneven n v i = rw reads_both (bounds_err (pair_slices f g) (PairKept f F.slots p q) ws ss a _ _ v (ne_eqb _ _ n) i)
 
     pub even : length (list_of F (f x ws)) ≡ length (list_of G (g y ws)) → Answer (Ok (record { first = x; second = y }))
     even n =
-        let l = made-first x h in
-        let r = made-second y k in
+        let l = made_first x h in
+        let r = made_second y k in
         rw reads_both
         (bounds_ok (pair_slices f g) (PairKept f F.slots p q) ws ss a _ _ _ (eq-eqb _ _ n)
-        (record { left = l.keeps; right = r.keeps; count = ap length l.of ∙ there-count w d a F.slots there-first })
+        (record { left = l.keeps; right = r.keeps; count = ap length l.of ∙ there_count w d a F.slots there_first })
         (ap₂ ◌++◌ (l.of ∙ sym left) (r.of ∙ sym right) ∙ take-append-drop F.slots ss))

@@ -9,7 +9,7 @@ use Rattle.area.proofs.SliceLemmas.{weight-append}
 use Rattle.column.specs.Kind.{Accepted, Format, Held, Laws, reads, after, reading_within}
 use Rattle.tuple.specs.Pair.{firsts, seconds, tuples, pair_format}
 use Rattle.column.specs.KindLemmas.{after-reads, in_bounds, neither}
-use Rattle.tuple.proofs.PairLemmas.{every-both, every-parts, parts-tuples, tuples-parts}
+use Rattle.tuple.proofs.PairLemmas.{every_both, every_parts, parts_tuples, tuples_parts}
 
 module _ {A B : Type 0} (F : Format A) (G : Format B) where
   -- accepted slices of a pair are accepted slices of its sides
@@ -19,7 +19,7 @@ module _ {A B : Type 0} (F : Format A) (G : Format B) where
       let (ls, p, u) = after-reads 0 (F.reading (take F.slots ss)) (λ ls. after F.slots (G.reading (drop F.slots ss)) (λ rs. reading_within (eqb (length ls) (length rs)) (tuples ls rs))) xs a.reading in
       let (rs, q, v) = after-reads F.slots (G.reading (drop F.slots ss)) (λ rs. reading_within (eqb (length ls) (length rs)) (tuples ls rs)) xs u in
       let b = in_bounds (eqb (length ls) (length rs)) (tuples ls rs) xs v in
-      let e = parts-tuples ls rs (eqb-true (length ls) (length rs) b.0) in (
+      let e = parts_tuples ls rs (eqb-true (length ls) (length rs) b.0) in (
         record {
           count = length-take-le F.slots ss (omega (arith, a.count));
           formed = All-take WellFormed F.slots ss a.formed;
@@ -36,14 +36,14 @@ module _ {A B : Type 0} (F : Format A) (G : Format B) where
 
 module _ {A B : Type 0} {f : A → Bool} {g : B → Bool} {F : Format A} {G : Format B} (LF : Laws f F) (LG : Laws g G) where
   -- a list of tuples that fits, by its sides
-  held-parts : (xs : List (A × B)) → Held (λ p. f p.0 && g p.1) xs → Held f (firsts xs) × Held g (seconds xs)
-  held-parts xs (h, l) =
-      let p = every-parts f g xs h in
+  held_parts : (xs : List (A × B)) → Held (λ p. f p.0 && g p.1) xs → Held f (firsts xs) × Held g (seconds xs)
+  held_parts xs (h, l) =
+      let p = every_parts f g xs h in
       ((p.0, rw length-map l), (p.1, rw length-map l))
 
   shape : (xs : List (A × B)) → Held (λ p. f p.0 && g p.1) xs → (length ((pair_format F G).writing xs) ≡ F.slots + G.slots) × AllByRecursion WellFormed ((pair_format F G).writing xs) × AllByRecursion ZeroPadded ((pair_format F G).writing xs)
   shape xs h =
-      let p = held-parts xs h in
+      let p = held_parts xs h in
       let l = LF.shape (firsts xs) p.0 in
       let r = LG.shape (seconds xs) p.1 in (
         length-append (F.writing (firsts xs)) (G.writing (seconds xs)) ∙ cc (l.0, r.0),
@@ -53,14 +53,14 @@ module _ {A B : Type 0} {f : A → Bool} {g : B → Bool} {F : Format A} {G : Fo
 
   return : (xs : List (A × B)) → Held (λ p. f p.0 && g p.1) xs → ((pair_format F G).sized ((pair_format F G).writing xs) ≡ None) × ((pair_format F G).reading ((pair_format F G).writing xs) ≡ reads xs)
   return xs h =
-      let p = held-parts xs h in
+      let p = held_parts xs h in
       let l = LF.return (firsts xs) p.0 in
       let r = LG.return (seconds xs) p.1 in
       let t = take_at (F.writing (firsts xs)) (G.writing (seconds xs)) F.slots (LF.shape (firsts xs) p.0).0 in
       let d = drop_at (F.writing (firsts xs)) (G.writing (seconds xs)) F.slots (LF.shape (firsts xs) p.0).0 in
       let e : length (firsts xs) ≡ length (seconds xs) = simp length-map in (
         rw (t, d, l.0, r.0) refl,
-        rw (t, d, l.1, r.1, eq-eqb (length (firsts xs)) (length (seconds xs)) e) (ap reads (tuples-parts xs)),
+        rw (t, d, l.1, r.1, eq-eqb (length (firsts xs)) (length (seconds xs)) e) (ap reads (tuples_parts xs)),
       )
 
   sound : (ss : List Slice) (xs : List (A × B)) → Accepted (pair_format F G) ss xs → Held (λ p. f p.0 && g p.1) xs
@@ -68,7 +68,7 @@ module _ {A B : Type 0} {f : A → Bool} {g : B → Bool} {F : Format A} {G : Fo
       let s = sides F G ss xs a in
       let l = LF.sound (take F.slots ss) (firsts xs) s.0 in
       let r = LG.sound (drop F.slots ss) (seconds xs) s.1 in
-      (every-both f g xs l.0 r.0, rw length-map at l.1)
+      (every_both f g xs l.0 r.0, rw length-map at l.1)
 
   least : (ss : List Slice) (xs : List (A × B)) → Accepted (pair_format F G) ss xs → weight ((pair_format F G).writing xs) ≤ weight ss
   least ss xs a =
@@ -95,5 +95,5 @@ module _ {A B : Type 0} {f : A → Bool} {g : B → Bool} {F : Format A} {G : Fo
         All-append ZeroPadded ls rs l.1 r.1,
       )
 
-  pub pair-laws : Laws (λ p. f p.0 && g p.1) (pair_format F G)
-  pair-laws = record { shape = shape; return = return; sound = sound; least = least; given = given }
+  pub pair_laws : Laws (λ p. f p.0 && g p.1) (pair_format F G)
+  pair_laws = record { shape = shape; return = return; sound = sound; least = least; given = given }

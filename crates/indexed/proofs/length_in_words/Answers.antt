@@ -1,6 +1,6 @@
 use Rattle.std.proofs.Common.{◌+◌, ap, arith, take_all}
 use Rattle.area.specs.Slice.{weight}
-use Rattle.indexed.proofs.ImageLemmas.{length-image, weight-take, weight-turn, exit-long, too_long, short}
+use Rattle.indexed.proofs.ImageLemmas.{length-image, weight-take, weight_turn, exit_long, too_long, short}
 use Rattle.indexed.proofs.length_in_words.Goals as goal
 
 pub returns-then-count-ge-MAX_WORDS : goal.returns-then-count-ge-MAX_WORDS
@@ -13,14 +13,14 @@ loop-k-init g c = (omega arith, λ s. omega (arith, c.slices-count.ensures.count
 
 pub returns-in_err-slice_len : goal.returns-in_err-slice_len
 returns-in_err-slice_len g c s =
-    exit-long (g.A.AsBytes.slices c.args.item.now) c.loop-k.k c.in_err-slice_len.field-0.0 c.from_residual.ensures.1 (c.slices-count.ensures.formed s) (omega (arith, c.slices-count.ensures.count s)) (c.in_err-slice_len.ensures s)
+    exit_long (g.A.AsBytes.slices c.args.item.now) c.loop-k.k c.in_err-slice_len.field-0.0 c.from_residual.ensures.1 (c.slices-count.ensures.formed s) (omega (arith, c.slices-count.ensures.count s)) (c.in_err-slice_len.ensures s)
 
 pub overflow_sub-total : goal.overflow_sub-total
 overflow_sub-total g c = c.loop-k.invariant.0
 
 pub returns-then-words-total : goal.returns-then-words-total
 returns-then-words-total g c s =
-    let t = weight-turn (g.A.AsBytes.slices c.args.item.now) c.loop-k.k _ _ (c.slices-count.ensures.formed s) (c.in_ok-slice_len.ensures s) c.saturating_add-words.ensures in
+    let t = weight_turn (g.A.AsBytes.slices c.args.item.now) c.loop-k.k _ _ (c.slices-count.ensures.formed s) (c.in_ok-slice_len.ensures s) c.saturating_add-words.ensures in
     too_long (g.A.AsBytes.slices c.args.item.now) _ c.at_start-then-words-total.ensures
     (omega (arith, t, c.loop-k.invariant.1 s, length-image (g.A.AsBytes.slices c.args.item.now), weight-take (g.A.AsBytes.slices c.args.item.now) (c.loop-k.k + 1)))
 
@@ -30,7 +30,7 @@ overflow_add-total-in-loop-k g c = omega (arith, c.loop-k.invariant.0)
 pub loop-k-preserved : goal.loop-k-preserved
 loop-k-preserved g c = (
   omega (arith, c.loop-k.invariant.0),
-  λ s. omega (arith, c.loop-k.invariant.1 s, weight-turn (g.A.AsBytes.slices c.args.item.now) c.loop-k.k _ _ (c.slices-count.ensures.formed s) (c.in_ok-slice_len.ensures s) c.saturating_add-words.ensures),
+  λ s. omega (arith, c.loop-k.invariant.1 s, weight_turn (g.A.AsBytes.slices c.args.item.now) c.loop-k.k _ _ (c.slices-count.ensures.formed s) (c.in_ok-slice_len.ensures s) c.saturating_add-words.ensures),
 )
 
 pub returns : goal.returns

@@ -1,7 +1,7 @@
 use Rattle.std.proofs.Common.{◌+◌, ◌*◌, length, set, refl, ◌∙◌, arith, length-set}
 use Rattle.std.proofs.lemmas.List.Edits.{paste_none}
 use Rattle.indexed.specs.Image.{ends}
-use Rattle.indexed.proofs.ImageLemmas.{length-image, length-ends, length-ok, long-err, index-turn, paste-turn, index-written}
+use Rattle.indexed.proofs.ImageLemmas.{length-image, length-ends, length_ok, long_err, index_turn, paste_turn, index-written}
 use Rattle.indexed.proofs.write_index.Goals as goal
 
 pub returns-then-count-part : goal.returns-then-count-part
@@ -15,17 +15,17 @@ loop-k-init g c s l = (
 
 pub returns-in_err-slice_len : goal.returns-in_err-slice_len
 returns-in_err-slice_len g c s l m =
-    absurd (omega (arith, (long-err (g.A.AsBytes.slices c.args.item.now) c.loop-k.k _ (c.slices-count.ensures.formed s) (omega (arith, c.slices-count.ensures.count s)) (c.in_err-slice_len.ensures s)).1))
+    absurd (omega (arith, (long_err (g.A.AsBytes.slices c.args.item.now) c.loop-k.k _ (c.slices-count.ensures.formed s) (omega (arith, c.slices-count.ensures.count s)) (c.in_err-slice_len.ensures s)).1))
 
 pub loop-k-preserved : goal.loop-k-preserved
 loop-k-preserved g c s l =
     let i = c.loop-k.invariant s l in
     let n = c.in_ok-slice_len.ensures s in
-    let t = index-turn (g.A.AsBytes.slices c.args.item.now) c.loop-k.k _ _ _ _ (c.slices-count.ensures.formed s) n l i.0 c.saturating_add-end.ensures c.saturating_add-in-loop-k.ensures in (
+    let t = index_turn (g.A.AsBytes.slices c.args.item.now) c.loop-k.k _ _ _ _ (c.slices-count.ensures.formed s) n l i.0 c.saturating_add-end.ensures c.saturating_add-in-loop-k.ensures in (
       t.0,
-      paste-turn (set c.args.part.now 0 c.saturating_mul-start.result) 1 _ _ c.loop-k.k _ _ i.1 (omega arith) t.1
+      paste_turn (set c.args.part.now 0 c.saturating_mul-start.result) 1 _ _ c.loop-k.k _ _ i.1 (omega arith) t.1
           (omega (arith, length-set c.args.part.now 0 c.saturating_mul-start.result))
-          (omega (arith, length-ends (8 * (1 + length (g.A.AsBytes.slices c.args.item.now))) (g.A.AsBytes.slices c.args.item.now), (length-ok (g.A.AsBytes.slices c.args.item.now) c.loop-k.k _ n).1)),
+          (omega (arith, length-ends (8 * (1 + length (g.A.AsBytes.slices c.args.item.now))) (g.A.AsBytes.slices c.args.item.now), (length_ok (g.A.AsBytes.slices c.args.item.now) c.loop-k.k _ n).1)),
     )
 
 pub returns : goal.returns

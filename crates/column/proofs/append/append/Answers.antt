@@ -1,5 +1,5 @@
 use Rattle.std.proofs.Common.{◌≤◌, Err, sym, refl, ap, ◌∙◌, subst, arith}
-use Rattle.column.proofs.AppendLemmas.{added_none, added_more, added-stopped, added-all, element-absent}
+use Rattle.column.proofs.AppendLemmas.{added_none, added_more, added_stopped, added_all, element_absent}
 use Rattle.column.proofs.append.append.Goals as goal
 
 -- src/append.rt:26:5
@@ -9,7 +9,7 @@ loop-i-init g c = (λ s. (s, refl), λ s r. added_none g.C.Column.takes (g.C.Col
 -- src/append.rt:27:17
 pub returns-in_err-x : goal.returns-in_err-x
 returns-in_err-x g c =
-    let no : g.R.Index.sound c.args.src.now → ⊥ = λ r. omega (arith, c.len.ensures r, element-absent (g.R.Index.list c.args.src.now) c.loop-i.i _ (sym (c.in_err-x.ensures r))) in
+    let no : g.R.Index.sound c.args.src.now → ⊥ = λ r. omega (arith, c.len.ensures r, element_absent (g.R.Index.list c.args.src.now) c.loop-i.i _ (sym (c.in_err-x.ensures r))) in
     record {
       keeps = λ s. (c.loop-i.invariant.0 s).0;
       answer = λ s r. absurd (no r);
@@ -21,7 +21,7 @@ returns-in_err-x g c =
 pub returns-then-is_err : goal.returns-then-is_err
 returns-then-is_err g c =
     let stopped : (s : g.C.Index.sound c.args.dst.now) (r : g.R.Index.sound c.args.src.now) → _ = λ s r.
-    added-stopped g.C.Column.takes (g.C.Column.areas c.args.dst.now) (g.C.Index.list c.args.dst.now) (g.R.Index.list c.args.src.now) c.args.a c.args.b
+    added_stopped g.C.Column.takes (g.C.Column.areas c.args.dst.now) (g.C.Index.list c.args.dst.now) (g.R.Index.list c.args.src.now) c.args.a c.args.b
     (subst (λ n. c.args.b ≤ n) (c.len.ensures r) c.if-b-len.false) c.loop-i.i (g.C.Index.list c.loop-i.dst) c.loop-i.auto.i (c.loop-i.invariant.1 s r)
     c.loop-i-test.true c.in_ok-x.x (sym (c.in_ok-x.ensures r)) (g.C.Column.areas c.loop-i.dst) (c.loop-i.invariant.0 s).1
     c.push.result (g.C.Index.list c.push.new.self) (c.push.ensures.answer (c.loop-i.invariant.0 s).0) (c.push.ensures.after (c.loop-i.invariant.0 s).0) (sym c.is_err.ensures.value ∙ c.if-is_err.true) in
@@ -46,7 +46,7 @@ loop-i-preserved g c = (
 pub returns : goal.returns
 returns g c =
     let all : (s : g.C.Index.sound c.args.dst.now) (r : g.R.Index.sound c.args.src.now) → _ = λ s r.
-    added-all g.C.Column.takes (g.C.Column.areas c.args.dst.now) (g.C.Index.list c.args.dst.now) (g.R.Index.list c.args.src.now) c.args.a c.args.b
+    added_all g.C.Column.takes (g.C.Column.areas c.args.dst.now) (g.C.Index.list c.args.dst.now) (g.R.Index.list c.args.src.now) c.args.a c.args.b
     (subst (λ n. c.args.b ≤ n) (c.len.ensures r) c.if-b-len.false) c.loop-i.i (g.C.Index.list c.loop-i.dst) c.loop-i.auto.i (c.loop-i.invariant.1 s r) c.loop-i-test.false in
     record {
       keeps = λ s. (c.loop-i.invariant.0 s).0;

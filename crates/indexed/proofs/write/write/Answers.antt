@@ -3,17 +3,17 @@ use Rattle.std.specs.List.{flat_map}
 use Rattle.std.proofs.lemmas.Result.{err_from_is_err_and}
 use Rattle.indexed.specs.Gives.{Gives}
 use Rattle.indexed.specs.Pieces.{pieces, slice_pieces}
-use Rattle.indexed.proofs.ImageLemmas.{words-ok}
-use Rattle.indexed.proofs.PieceLemmas.{answered, gives_after, length-pieces, pieces-spill, stop-before, taken-whole}
+use Rattle.indexed.proofs.ImageLemmas.{words_ok}
+use Rattle.indexed.proofs.PieceLemmas.{answered, gives_after, length-pieces, pieces-spill, stop_before, taken-whole}
 use Rattle.indexed.proofs.write.write.Goals as goal
 
 pub returns-in_err-write_index : goal.returns-in_err-write_index
 returns-in_err-write_index g c s =
     let p = err_from_is_err_and c.from_residual.result c.from_residual.ensures.1 in
     let ss = g.A.AsBytes.slices c.args.item.now in
-    let q = (words-ok ss _ (c.in_default.ensures s)).1 in
+    let q = (words_ok ss _ (c.in_default.ensures s)).1 in
     let b : Gives g.W.WriteBytes.taken g.W.WriteBytes.room g.W.WriteBytes.beyond g.W.WriteBytes.fault 0 (pieces ss) c.args.sink.now c.write_index.new.sink 0 c.from_residual.result =
-    rw (p.1, p.2) (stop-before (flat_map slice_pieces ss) (c.in_err-write_index.ensures.gives s q)) in
+    rw (p.1, p.2) (stop_before (flat_map slice_pieces ss) (c.in_err-write_index.ensures.gives s q)) in
     let f = c.in_err-write_index.ensures.formed s in
     let a = answered (pieces ss) c.args.sink.now c.write_index.new.sink 0 c.from_residual.result (length-pieces ss f q) b in
     record {
@@ -25,7 +25,7 @@ returns-in_err-write_index g c s =
 pub returns : goal.returns
 returns g c s =
     let ss = g.A.AsBytes.slices c.args.item.now in
-    let q = (words-ok ss _ (c.in_default.ensures s)).1 in
+    let q = (words_ok ss _ (c.in_default.ensures s)).1 in
     let a = c.in_ok-write_index.ensures.gives s q in
     let f = c.in_ok-write_index.ensures.formed s in
     let b = answered (pieces ss) c.args.sink.now c.write_slices.new.sink c.write_slices.new.piece c.write_slices.result

@@ -2,11 +2,11 @@
 use Rattle.std.proofs.Common.{◌%◌, Ok, Err, sym, ap, ◌∙◌, arith}
 use Rattle.boolean.specs.Bools.{bools_list}
 use Rattle.boolean.proofs.BoolsLemmas.{bit_of, element-held, length-is}
-use Rattle.column.proofs.ColumnLemmas.{element-past}
+use Rattle.column.proofs.ColumnLemmas.{element_past}
 use Rattle.boolean.proofs.bools.BoolsIndex.get.Goals as goal
 
 pub returns-then-i-len : goal.returns-then-i-len
-returns-then-i-len g c = λ s. ap Err c.at_start.ensures ∙ sym (element-past (bools_list g.C.Index.list c.args.self.now) c.args.i (omega (arith, c.len.ensures s)))
+returns-then-i-len g c = λ s. ap Err c.at_start.ensures ∙ sym (element_past (bools_list g.C.Index.list c.args.self.now) c.args.i (omega (arith, c.len.ensures s)))
 
 pub returns : goal.returns
 returns g c = λ s.

@@ -2,9 +2,9 @@
 use Rattle.std.proofs.Common.{◌≡◌, ◌-◌, [], ◌∷◌, length, Err, sym, ap, ◌∙◌, arith}
 use Rattle.area.specs.Slice.{of_words}
 use Rattle.column.specs.Column.{word_in_slice}
-use Rattle.column.proofs.SliceAt.{word_in_slice-left, word_in_slice-right, word_in_slice-past}
+use Rattle.column.proofs.SliceAt.{word_in_slice_left, word_in_slice_right, word_in_slice_past}
 use Rattle.decode.specs.Decode.{slice_in}
-use Rattle.boolean.proofs.BoolsLaws.{bools-laws}
+use Rattle.boolean.proofs.BoolsLaws.{bools_laws}
 use Rattle.boolean.proofs.FormLemmas.{below, length-given, tail-word}
 use Rattle.boolean.proofs.form.BoolsFromBytes.form_slice_word.Goals as goal
 
@@ -16,12 +16,12 @@ returns-then-k-last g c s =
     let b = below g.C.FromBytes.slices g.C.FromBytes.kept g.C.Kind.format c.args.form.now ws s in
     let n = length-given _ _ _ _ _ s c.lawful.ensures in
     c.form_slice_word.ensures b.values
-    ∙ sym (ap (λ ss. word_in_slice ss k i) b.giving ∙ word_in_slice-left _ _ k i (omega (arith, n, c.slice_count-last.ensures)))
+    ∙ sym (ap (λ ss. word_in_slice ss k i) b.giving ∙ word_in_slice_left _ _ k i (omega (arith, n, c.slice_count-last.ensures)))
 
 pub returns-then-k-last-2 : goal.returns-then-k-last-2
 returns-then-k-last-2 g c s =
-    let n = ((bools-laws _ c.lawful.ensures).given _ _ s.accepted).0.count in
-    ap Err c.at_start.ensures ∙ sym (word_in_slice-past _ c.args.k c.args.i (omega (arith, n, c.then-k-last-2.either, c.slice_count-last.ensures)))
+    let n = ((bools_laws _ c.lawful.ensures).given _ _ s.accepted).0.count in
+    ap Err c.at_start.ensures ∙ sym (word_in_slice_past _ c.args.k c.args.i (omega (arith, n, c.then-k-last-2.either, c.slice_count-last.ensures)))
 
 pub returns : goal.returns
 returns g c s =
@@ -35,4 +35,4 @@ returns g c s =
     let ts = of_words (slice_in ws t.place).words ∷ [] in
     let z : k - length gs ≡ 0 = omega (arith, n, c.slice_count-last.ensures) in
     c.word.ensures b.inside
-    ∙ sym (ap (λ ss. word_in_slice ss k i) b.giving ∙ word_in_slice-right gs ts k i (omega (arith, n, c.slice_count-last.ensures)) (λ h. omega arith) ∙ ap (λ j. word_in_slice ts j i) z ∙ tail-word ws t.place b.inside i)
+    ∙ sym (ap (λ ss. word_in_slice ss k i) b.giving ∙ word_in_slice_right gs ts k i (omega (arith, n, c.slice_count-last.ensures)) (λ h. omega arith) ∙ ap (λ j. word_in_slice ts j i) z ∙ tail-word ws t.place b.inside i)

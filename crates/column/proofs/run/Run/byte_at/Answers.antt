@@ -1,12 +1,12 @@
 use Rattle.std.proofs.Common.{◌∙◌}
 use Rattle.column.specs.Run.{run_list}
-use Rattle.column.proofs.RunLemmas.{byte-in, byte_past}
+use Rattle.column.proofs.RunLemmas.{byte_in, byte_past}
 use Rattle.column.proofs.run.Run.byte_at.Goals as goal
 
 pub returns-in-Ok : goal.returns-in-Ok
 returns-in-Ok g c s =
     c.byte.ensures
-    ∙ byte-in g.T.Value.fits g.T.Element.codec g.met.T.Element.one_to_one (run_list c.args.self.now) s.fitting
+    ∙ byte_in g.T.Value.fits g.T.Element.codec g.met.T.Element.one_to_one (run_list c.args.self.now) s.fitting
     c.args.p c.size-size.result c.size-size.ensures c.in-Ok.x (c.in-Ok.ensures s)
 
 pub returns-in-Err : goal.returns-in-Err

@@ -1,7 +1,7 @@
 use Rattle.std.proofs.Common.{◌≡◌, ◌∙◌, arith}
 use Rattle.std.specs.List.{flat_map}
 use Rattle.column.specs.Run.{run_list}
-use Rattle.column.proofs.RunLemmas.{run-strings, word_more, word_none}
+use Rattle.column.proofs.RunLemmas.{run_strings, word_more, word_none}
 use Rattle.column.proofs.run.Run.word_at.Goals as goal
 
 pub loop-j-init : goal.loop-j-init
@@ -10,7 +10,7 @@ loop-j-init g c s = word_none (flat_map g.T.Element.codec.bytes (run_list c.args
 pub loop-j-preserved : goal.loop-j-preserved
 loop-j-preserved g c s =
     word_more (flat_map g.T.Element.codec.bytes (run_list c.args.self.now)) c.args.i c.loop-j.j c.loop-j.word c.from.result
-    (run-strings g.T.Value.fits g.T.Element.codec g.met.T.Element.one_to_one c.args.self.now s)
+    (run_strings g.T.Value.fits g.T.Element.codec g.met.T.Element.one_to_one c.args.self.now s)
     c.loop-j-test.true c.loop-j.auto.j (c.loop-j.invariant s) (c.from.ensures ∙ c.byte_at.ensures s)
 
 pub returns : goal.returns

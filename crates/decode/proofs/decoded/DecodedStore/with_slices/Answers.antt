@@ -1,17 +1,17 @@
 use Rattle.std.proofs.Common.{Some, sym, refl, ap, ◌∙◌, arith}
 use Rattle.std.proofs.lemmas.Result.{err_from_is_err_and}
 use Rattle.std.proofs.lemmas.Bool.{eq-eqb, ne_eqb}
-use Rattle.decode.proofs.DecodeLemmas.{all_asked, asked-uncounted, count-slices, ends-refused, index-counted, index-refused, index_short, index-under, count-refused}
+use Rattle.decode.proofs.DecodeLemmas.{all_asked, asked_uncounted, count_slices, ends_refused, index-counted, index_refused, index_short, index_under, count_refused}
 use Rattle.decode.proofs.decoded.DecodedStore.with_slices.Goals as goal
 
 pub returns-in_err-count : goal.returns-in_err-count
 returns-in_err-count g c =
     let p = err_from_is_err_and c.from_residual.result c.from_residual.ensures.1 in
-    rw (p.1, p.2) (index-refused (g.S.Store.words c.args.store.now) _ _ (sym c.in_err-count.ensures.answer))
+    rw (p.1, p.2) (index_refused (g.S.Store.words c.args.store.now) _ _ (sym c.in_err-count.ensures.answer))
 
 pub returns-then-count-slices : goal.returns-then-count-slices
 returns-then-count-slices g c =
-    count-refused (Some c.args.slices) (g.S.Store.words c.args.store.now) c.in_ok-count.count c.in_ok-count.ensures.answer
+    count_refused (Some c.args.slices) (g.S.Store.words c.args.store.now) c.in_ok-count.count c.in_ok-count.ensures.answer
     (ne_eqb c.in_ok-count.count c.args.slices c.if-count-slices.true)
     ∙ ap Some (sym c.at_start.ensures)
 
@@ -21,13 +21,13 @@ returns-in_err-ends_stand g c =
     let h = c.in_ok-count.ensures.answer in
     let n = c.in_ok-count.count in
     let p = err_from_is_err_and c.from_residual-in_err-ends_stand.result c.from_residual-in_err-ends_stand.ensures.1 in
-    rw (p.1, p.2) (ends-refused (Some c.args.slices) ws n h _ (eq-eqb n c.args.slices (omega arith)) (c.in_err-ends_stand.ensures (index_short (Some c.args.slices) ws n h) (index-under (Some c.args.slices) ws n h)))
+    rw (p.1, p.2) (ends_refused (Some c.args.slices) ws n h _ (eq-eqb n c.args.slices (omega arith)) (c.in_err-ends_stand.ensures (index_short (Some c.args.slices) ws n h) (index_under (Some c.args.slices) ws n h)))
 
 pub returns : goal.returns
 returns g c =
     let ws = g.S.Store.words c.args.store.now in
     let h = c.in_ok-count.ensures.answer in
     let n = c.in_ok-count.count in
-    let a = all_asked (Some c.args.slices) ws n h (eq-eqb n c.args.slices (omega arith)) (c.in_ok-ends_stand.ensures (index_short (Some c.args.slices) ws n h) (index-under (Some c.args.slices) ws n h)) in
-    let b = asked-uncounted (Some c.args.slices) ws a in
-    (a, (refl, record { asked = b; counted = (index-counted ws n (sym h)).1 ∙ sym (count-slices ws b); whole = c.in_ok-count.ensures.whole }))
+    let a = all_asked (Some c.args.slices) ws n h (eq-eqb n c.args.slices (omega arith)) (c.in_ok-ends_stand.ensures (index_short (Some c.args.slices) ws n h) (index_under (Some c.args.slices) ws n h)) in
+    let b = asked_uncounted (Some c.args.slices) ws a in
+    (a, (refl, record { asked = b; counted = (index-counted ws n (sym h)).1 ∙ sym (count_slices ws b); whole = c.in_ok-count.ensures.whole }))

@@ -2,8 +2,8 @@ use Rattle.std.proofs.Common.{[], ◌∷◌, length, ap, arith}
 use Rattle.column.specs.Run.{word_run}
 use Rattle.decode.specs.Decode.{slice_in}
 use Rattle.read.specs.Form.{list_of}
-use Rattle.offsets.proofs.FormLemmas.{bounds-stand, strides-is, strides-short}
-use Rattle.offsets.proofs.StridesLemmas.{length-stands}
+use Rattle.offsets.proofs.FormLemmas.{bounds_stand, strides-is, strides_short}
+use Rattle.offsets.proofs.StridesLemmas.{length_stands_lem}
 use Rattle.offsets.proofs.form.StridesFromBytes.form_len.Goals as goal
 
 pub returns : goal.returns
@@ -11,8 +11,8 @@ returns c ws h =
     let t = c.args.form.now in
     omega (
       arith,
-      c.form_len.ensures ws (bounds-stand t ws h),
-      strides-short t ws h,
+      c.form_len.ensures ws (bounds_stand t ws h),
+      strides_short t ws h,
       ap length (strides-is t ws h),
-      length-stands t.stride t.length (list_of word_run (slice_in ws t.bounds ∷ [])),
+      length_stands_lem t.stride t.length (list_of word_run (slice_in ws t.bounds ∷ [])),
     )

@@ -1,6 +1,6 @@
 use Rattle.std.proofs.Common.{◌≡◌, ◌+◌, arith}
-use Rattle.read.proofs.FormLemmas.{there-few}
-use Rattle.offsets.proofs.FormLemmas.{head-passes, head-refused, place_in, there-below}
+use Rattle.read.proofs.FormLemmas.{there_few}
+use Rattle.offsets.proofs.FormLemmas.{head_passes, head_refused, place_in, there_below}
 use Rattle.offsets.proofs.form.StridesFromBytes.sized.Goals as goal
 
 pub returns-then-words-lt2 : goal.returns-then-words-lt2
@@ -12,7 +12,7 @@ returns-then-words-lt2 g c t =
     let q = c.in_ok-get.ensures.answer t.decoded in
     let i = (place_in f d a (a + 1) (omega arith) t s q).0 in
     let n = c.words.ensures (omega arith) in
-    head-refused f d a (a + 1) (omega arith) t s q c.at.result (omega arith) c.at.ensures
+    head_refused f d a (a + 1) (omega arith) t s q c.at.result (omega arith) c.at.ensures
 
 pub returns : goal.returns
 returns g c t =
@@ -22,7 +22,7 @@ returns g c t =
     let k = c.saturating_add.result in
     let s = c.in_ok-get.field-0 in
     let q = c.in_ok-get.ensures.answer t.decoded in
-    let e : k ≡ a + 1 = omega (arith, there-few f d a 2 t) in
+    let e : k ≡ a + 1 = omega (arith, there_few f d a 2 t) in
     let i = (place_in f d a k e t s q).0 in
     let n = c.words.ensures (omega arith) in
-    head-passes f d a k e t s q c.sized.result (omega arith) (c.sized.ensures (there-below f d a k e t))
+    head_passes f d a k e t s q c.sized.result (omega arith) (c.sized.ensures (there_below f d a k e t))

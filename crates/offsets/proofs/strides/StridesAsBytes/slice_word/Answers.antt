@@ -1,11 +1,11 @@
 use Rattle.std.proofs.Common.{◌≤◌, [], ◌∷◌, Err, sym, ap, ◌∙◌, arith}
 use Rattle.column.specs.Column.{element}
-use Rattle.column.proofs.ColumnLemmas.{element-past}
-use Rattle.offsets.proofs.StridesLemmas.{slice-word, head-word}
+use Rattle.column.proofs.ColumnLemmas.{element_past}
+use Rattle.offsets.proofs.StridesLemmas.{slice_word_lem, head-word}
 use Rattle.offsets.proofs.strides.StridesAsBytes.slice_word.Goals as goal
 
 pub returns-then-k-gt0 : goal.returns-then-k-gt0
-returns-then-k-gt0 c h = c.slice_word.ensures h.run ∙ slice-word c.args.self.now h c.args.k c.args.i c.if-k-gt0.true
+returns-then-k-gt0 c h = c.slice_word.ensures h.run ∙ slice_word_lem c.args.self.now h c.args.k c.args.i c.if-k-gt0.true
 
 pub returns-in-0 : goal.returns-in-0
 returns-in-0 c h =
@@ -21,4 +21,4 @@ pub returns-in_default : goal.returns-in_default
 returns-in_default c h =
     let column = c.args.self.now in
     let past : 2 ≤ c.args.i = omega arith in
-    ap Err c.at_start.ensures ∙ sym (element-past (column.head.stride ∷ column.head.length ∷ []) c.args.i past) ∙ head-word column h c.args.k c.args.i c.if-k-gt0.false
+    ap Err c.at_start.ensures ∙ sym (element_past (column.head.stride ∷ column.head.length ∷ []) c.args.i past) ∙ head-word column h c.args.k c.args.i c.if-k-gt0.false

@@ -1,7 +1,7 @@
 use Rattle.std.proofs.Common.{◌≡◌, ◌+◌, ◌^◌, ◌<◌, true, false, length, Ok, sym, refl, ◌∙◌, subst, arith}
 use Rattle.column.specs.Column.{cells}
 use Rattle.offsets.specs.Strides.{StridesSound}
-use Rattle.offsets.proofs.StridesLemmas.{Pushes, continuing, push-first, push-more, push-ends, push-head, push-run}
+use Rattle.offsets.proofs.StridesLemmas.{Pushes, continuing, push-first, push_more, push-ends, push-head, push-run}
 use Rattle.offsets.proofs.strides.StridesColumn.push.Goals as goal
 
 pub returns-then-self-eq0 : goal.returns-then-self-eq0
@@ -17,7 +17,7 @@ returns-then-continues c =
     let column = c.args.self.now in
     let p : StridesSound column → Pushes (cells (length column.bounds.cells.now)) column (record { head = record { stride = column.head.stride; length = column.head.length + 1 }; bounds = column.bounds }) c.args.x (Ok tt) = λ h.
     let e : true ≡ continuing column h c.args.x = subst (λ x. true ≡ continuing column h x) c.known-x.ensures.same c.if-continues.ensures in
-    push-head _ column h c.args.x (omega (arith, c.len.ensures h)) c.known-x.ensures.within (record { stride = column.head.stride; length = column.head.length + 1 }) (push-more column h c.args.x c.if-self-eq0.false e) in
+    push-head _ column h c.args.x (omega (arith, c.len.ensures h)) c.known-x.ensures.within (record { stride = column.head.stride; length = column.head.length + 1 }) (push_more column h c.args.x c.if-self-eq0.false e) in
     record { keeps = λ h. (p h).keeps; fitting = c.known-x.ensures.within; answer = λ h. (p h).answer; after = λ h. (p h).after; same = λ _. refl }
 
 pub returns : goal.returns

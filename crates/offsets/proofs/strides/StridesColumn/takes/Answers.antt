@@ -3,7 +3,7 @@ use Rattle.std.proofs.lemmas.Bool.{eqb-false}
 use Rattle.column.specs.Column.{cells}
 use Rattle.column.specs.Kind.{L}
 use Rattle.offsets.specs.Strides.{strides_list, strides_takes}
-use Rattle.offsets.proofs.StridesLemmas.{push-first, push-more, push-ends, takes-free, takes-bound}
+use Rattle.offsets.proofs.StridesLemmas.{push-first, push_more, push-ends, takes_free, takes_bound}
 use Rattle.offsets.proofs.strides.StridesColumn.takes.Goals as goal
 use Rattle.offsets.proofs.strides.StridesColumn.takes.Goals.{then-self-eq0, else-self-eq0}
 
@@ -15,12 +15,12 @@ returns-then-continues c h =
     elim c.if-self-eq0.branch [
       | then-self-eq0 w ↦
           let t : strides_takes a (strides_list column) c.args.x ≡ true =
-          takes-free column h c.args.x a _ _ l (push-first column h c.args.x w.if-self-eq0.true) in
+          takes_free column h c.args.x a _ _ l (push-first column h c.args.x w.if-self-eq0.true) in
           cc
       | else-self-eq0 w ↦
           let e : true ≡ w.continues.result = cc in
           let t : strides_takes a (strides_list column) c.args.x ≡ true =
-          takes-free column h c.args.x a _ _ l (push-more column h c.args.x w.if-self-eq0.false (e ∙ w.continues.ensures)) in
+          takes_free column h c.args.x a _ _ l (push_more column h c.args.x w.if-self-eq0.false (e ∙ w.continues.ensures)) in
           cc
     ]
 
@@ -37,5 +37,5 @@ returns-else-continues c h =
           let e : false ≡ w.continues.result = cc in
           let f : c.args.x < 2 ^ 64 = omega arith in
           c.takes.ensures h.run
-          ∙ sym (takes-bound column h c.args.x a _ _ l (push-ends column h c.args.x w.if-self-eq0.false (e ∙ w.continues.ensures) f))
+          ∙ sym (takes_bound column h c.args.x a _ _ l (push-ends column h c.args.x w.if-self-eq0.false (e ∙ w.continues.ensures) f))
     ]

@@ -4,7 +4,7 @@ use Rattle.area.specs.Fault.{refuse}
 use Rattle.area.specs.declared.fault.Refusal.TheVariants.{SliceSize}
 use Rattle.column.specs.Kind.{slot}
 use Rattle.read.specs.Form.{slices_within}
-use Rattle.read.proofs.FormLemmas.{got, size-passes, size-refuses}
+use Rattle.read.proofs.FormLemmas.{got, size_passes, size-refuses}
 use Rattle.read.proofs.run.RunFromBytes.sized.Goals as goal
 use Rattle.read.proofs.run.RunFromBytes.sized.Goals.{then-size-eq0-via-then-size-eq0, then-size-eq0-via-else-size-eq0+then-span-size-ne0}
 
@@ -27,4 +27,4 @@ returns g c t =
     let f = g.S.Store.words in
     let d = c.args.image.now in
     let e = ap (λ s. s.bytes) (got f d c.args.at 1 t 0 c.args.at (omega arith) (omega arith) c.in_ok-span.span (c.in_ok-span.ensures.answer t.decoded)).1 in
-    size-passes c.args.at (eqb ((slot (slices_within f d c.args.at 1) 0).bytes % g.T.Element.codec.size) 0) 0 (eq-eqb _ 0 (cc))
+    size_passes c.args.at (eqb ((slot (slices_within f d c.args.at 1) 0).bytes % g.T.Element.codec.size) 0) 0 (eq-eqb _ 0 (cc))

@@ -1,5 +1,5 @@
 use Rattle.std.proofs.Common.{◌≡◌, ◌+◌, ◌-◌, ◌≤◌, length, take, refl, arith}
-use Rattle.storage.proofs.SinkLemmas.{written_none, written-more, answer-whole, taken-whole, room_whole, beyond-whole}
+use Rattle.storage.proofs.SinkLemmas.{written_none, written_more, answer-whole, taken-whole, room_whole, beyond_whole}
 use Rattle.stash.proofs.ReloadLemmas.{marked}
 use Rattle.stash.proofs.landing.LandingWriteBytes.write_all.Goals as goal
 
@@ -10,7 +10,7 @@ pub loop-i-preserved : goal.loop-i-preserved
 loop-i-preserved c =
     let s = c.args.self.now in
     let t = c.loop-i in (
-      written-more s.area.now s.at c.args.bytes.now t.self.area.now t.i (t.self.at + t.i) t.invariant.0 (omega arith) (omega arith) (omega arith),
+      written_more s.area.now s.at c.args.bytes.now t.self.area.now t.i (t.self.at + t.i) t.invariant.0 (omega arith) (omega arith) (omega arith),
       t.invariant.1,
     )
 
@@ -28,5 +28,5 @@ returns c =
       answer = answer-whole (record {}) (length old - a) bs fits;
       taken = marked (take a old) t.invariant.1.1 (length old - a) bs (taken-whole old a bs t.self.area.now t.i p t.invariant.0 all here fits);
       room = room_whole old a bs t.self.area.now t.i p t.invariant.0 all here fits;
-      beyond = beyond-whole old a bs t.self.area.now t.i p t.invariant.0 all here fits;
+      beyond = beyond_whole old a bs t.self.area.now t.i p t.invariant.0 all here fits;
     }

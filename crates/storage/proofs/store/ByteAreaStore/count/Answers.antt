@@ -1,5 +1,5 @@
 use Rattle.std.proofs.Common.{◌/◌, length, lit<}
-use Rattle.area.proofs.DigitLemmas.{chunks-under}
+use Rattle.area.proofs.DigitLemmas.{chunks_under}
 use Rattle.storage.proofs.StoreLemmas.{length-join_words}
 use Rattle.storage.proofs.store.ByteAreaStore.count.Goals as goal
 
@@ -10,5 +10,5 @@ returns c =
     let l = length-join_words bs in
     record {
       count = cc;
-      whole = chunks-under 256 8 (length bs / 8) bs (lit< tt) c.byte_count.ensures.whole;
+      whole = chunks_under 256 8 (length bs / 8) bs (lit< tt) c.byte_count.ensures.whole;
     }

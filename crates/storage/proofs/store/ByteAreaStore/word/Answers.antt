@@ -1,11 +1,11 @@
 use Rattle.std.proofs.Common.{sym, ◌∙◌, arith}
 use Rattle.storage.specs.Store.{join_words}
-use Rattle.storage.proofs.StoreLemmas.{length-join_words, word_at-past, word_at-join_words}
+use Rattle.storage.proofs.StoreLemmas.{length-join_words, word_at_past, word_at-join_words}
 use Rattle.storage.proofs.store.ByteAreaStore.word.Goals as goal
 
 pub returns-then-i-self : goal.returns-then-i-self
 returns-then-i-self c =
-    sym (word_at-past (join_words c.args.self.now.bytes.now) c.args.i (omega (arith, length-join_words c.args.self.now.bytes.now)))
+    sym (word_at_past (join_words c.args.self.now.bytes.now) c.args.i (omega (arith, length-join_words c.args.self.now.bytes.now)))
 
 pub returns : goal.returns
 returns c = c.join.ensures ∙ word_at-join_words c.args.self.now.bytes.now c.args.i (omega arith)

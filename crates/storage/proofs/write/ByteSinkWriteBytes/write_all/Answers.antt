@@ -1,5 +1,5 @@
 use Rattle.std.proofs.Common.{◌≡◌, ◌+◌, ◌-◌, ◌≤◌, length, refl, arith}
-use Rattle.storage.proofs.SinkLemmas.{written_none, written-more, answer-whole, taken-whole, room_whole, beyond-whole}
+use Rattle.storage.proofs.SinkLemmas.{written_none, written_more, answer-whole, taken-whole, room_whole, beyond_whole}
 use Rattle.storage.proofs.write.ByteSinkWriteBytes.write_all.Goals as goal
 
 pub loop-i-init : goal.loop-i-init
@@ -9,7 +9,7 @@ pub loop-i-preserved : goal.loop-i-preserved
 loop-i-preserved c =
     let s = c.args.self.now in
     let t = c.loop-i in (
-      written-more s.area.now s.at c.args.bytes.now t.self.area.now t.i (t.self.at + t.i) t.invariant.0 (omega arith) (omega arith) (omega arith),
+      written_more s.area.now s.at c.args.bytes.now t.self.area.now t.i (t.self.at + t.i) t.invariant.0 (omega arith) (omega arith) (omega arith),
       t.invariant.1,
     )
 
@@ -27,5 +27,5 @@ returns c =
       answer = answer-whole (record {}) (length old - a) bs fits;
       taken = taken-whole old a bs t.self.area.now t.i p t.invariant.0 all here fits;
       room = room_whole old a bs t.self.area.now t.i p t.invariant.0 all here fits;
-      beyond = beyond-whole old a bs t.self.area.now t.i p t.invariant.0 all here fits;
+      beyond = beyond_whole old a bs t.self.area.now t.i p t.invariant.0 all here fits;
     }

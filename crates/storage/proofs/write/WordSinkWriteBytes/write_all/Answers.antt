@@ -3,7 +3,7 @@ use Rattle.std.proofs.lemmas.Bool.{cond-false, lt-leb}
 use Rattle.area.specs.Slice.{spill}
 use Rattle.area.proofs.SliceLemmas.{length-spill}
 use Rattle.storage.specs.declared.write.WordSink.{WordSink}
-use Rattle.storage.proofs.SinkLemmas.{written_none, written-more-word, answer-whole, taken-whole, room_whole, beyond-whole}
+use Rattle.storage.proofs.SinkLemmas.{written_none, written_more_word, answer-whole, taken-whole, room_whole, beyond_whole}
 use Rattle.storage.proofs.write.WordSinkWriteBytes.write_all.Goals as goal
 use Rattle.storage.proofs.write.WordSinkWriteBytes.write_all.Goals.{then-j-lt7, else-j-lt7}
 
@@ -36,7 +36,7 @@ loop-i-preserved c =
     let bs = c.args.bytes.now in
     let t = c.loop-i in
     let fits : length bs ≤ length (spill s.area.now) - place s = omega (arith, length-spill s.area.now) in
-    let more = written-more-word s.area.now (place s) bs t.self.area.now t.i t.self.at (t.self.part % 8) c.with_byte.result t.invariant.0 t.invariant.1 c.loop-i-test.true fits (omega arith) c.with_byte.ensures in
+    let more = written_more_word s.area.now (place s) bs t.self.area.now t.i t.self.at (t.self.part % 8) c.with_byte.result t.invariant.0 t.invariant.1 c.loop-i-test.true fits (omega arith) c.with_byte.ensures in
     elim c.if-j-lt7.branch [
       | then-j-lt7 w ↦ rw w.self-is (more, omega arith)
       | else-j-lt7 w ↦ rw w.self-is (more, omega arith)
@@ -56,5 +56,5 @@ returns c =
       answer = answer-whole (record {}) (length old - place s) bs fits;
       taken = taken-whole old (place s) bs new t.i (place t.self) t.invariant.0 all here fits;
       room = room_whole old (place s) bs new t.i (place t.self) t.invariant.0 all here fits;
-      beyond = beyond-whole old (place s) bs new t.i (place t.self) t.invariant.0 all here fits;
+      beyond = beyond_whole old (place s) bs new t.i (place t.self) t.invariant.0 all here fits;
     }

@@ -4,7 +4,7 @@ use Rattle.column.specs.Kind.{slot, word_of}
 use Rattle.column.specs.KindLemmas.{least_words_lem}
 use Rattle.decode.specs.Decode.{slice_in}
 use Rattle.read.specs.Form.{slices_within}
-use Rattle.read.proofs.PlaceLemmas.{bounds-err, bounds_ok, no_place, no_word, place, slices-last, word-there}
+use Rattle.read.proofs.PlaceLemmas.{bounds_err, bounds_ok, no_place, no_word, place, slices_last, word_there}
 use Rattle.std.proofs.lemmas.Bool.{le-leb, lt-leb}
 use Rattle.tuple.specs.Form.{EmptiesKept}
 use Rattle.tuple.proofs.form.EmptiesFromBytes.form.Goals as goal
@@ -24,15 +24,15 @@ returns-then-count g c t z =
     let f = g.S.Store.words in
     let d = c.args.image.now in
     let p = place f d c.args.at 1 t 0 c.args.at (omega arith) (omega arith) c.in_ok-place.place c.in_ok-place.ensures.answer in
-    let w = word-there f d c.args.at 1 t 0 c.in_ok-place.place p (f c.store.result.now) (ap f c.store.ensures) 0 c.in_ok-count.count c.in_ok-count.ensures in
-    bounds-err (λ u vs. slice_in vs u.place ∷ []) EmptiesKept (f d.store.now) (slices_within f d c.args.at 1) c.args.at _ _ _ (lt-leb _ _ (omega (arith, w))) c.at.ensures
+    let w = word_there f d c.args.at 1 t 0 c.in_ok-place.place p (f c.store.result.now) (ap f c.store.ensures) 0 c.in_ok-count.count c.in_ok-count.ensures in
+    bounds_err (λ u vs. slice_in vs u.place ∷ []) EmptiesKept (f d.store.now) (slices_within f d c.args.at 1) c.args.at _ _ _ (lt-leb _ _ (omega (arith, w))) c.at.ensures
 
 pub returns : goal.returns
 returns g c t z =
     let f = g.S.Store.words in
     let d = c.args.image.now in
     let p = place f d c.args.at 1 t 0 c.args.at (omega arith) (omega arith) c.in_ok-place.place c.in_ok-place.ensures.answer in
-    let w = word-there f d c.args.at 1 t 0 c.in_ok-place.place p (f c.store.result.now) (ap f c.store.ensures) 0 c.in_ok-count.count c.in_ok-count.ensures in
+    let w = word_there f d c.args.at 1 t 0 c.in_ok-place.place p (f c.store.result.now) (ap f c.store.ensures) 0 c.in_ok-count.count c.in_ok-count.ensures in
     bounds_ok (λ u vs. slice_in vs u.place ∷ []) EmptiesKept (f d.store.now) (slices_within f d c.args.at 1) c.args.at _ _ _ (le-leb _ _ (omega (arith, w)))
     (record { inside = p.inside; count = w ∙ ap (λ s. word_of s 0) (sym p.slice) })
-    (ap (λ s. s ∷ []) p.slice ∙ slices-last f d c.args.at 0 t)
+    (ap (λ s. s ∷ []) p.slice ∙ slices_last f d c.args.at 0 t)

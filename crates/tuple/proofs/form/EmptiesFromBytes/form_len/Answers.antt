@@ -1,7 +1,7 @@
 use Rattle.std.proofs.Common.{length, sym, ap, ◌∙◌}
 use lib.ListN.{length-replicate}
-use Rattle.tuple.proofs.FormLemmas.{empties-list}
+use Rattle.tuple.proofs.FormLemmas.{empties_list}
 use Rattle.tuple.proofs.form.EmptiesFromBytes.form_len.Goals as goal
 
 pub returns : goal.returns
-returns c ws s = sym (length-replicate c.args.form.now.count tt) ∙ ap length (empties-list c.args.form.now ws s)
+returns c ws s = sym (length-replicate c.args.form.now.count tt) ∙ ap length (empties_list c.args.form.now ws s)

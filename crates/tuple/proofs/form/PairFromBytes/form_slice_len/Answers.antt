@@ -1,6 +1,6 @@
 use Rattle.std.proofs.Common.{◌≡◌, ◌-◌, length, sym, ap, ◌∙◌, arith}
 use Rattle.column.specs.Column.{slice_length}
-use Rattle.column.proofs.SliceAt.{slice_length-left, slice_length-right}
+use Rattle.column.proofs.SliceAt.{slice_length_left, slice_length_right}
 use Rattle.tuple.proofs.FormLemmas.{apart}
 use Rattle.tuple.proofs.form.PairFromBytes.form_slice_len.Goals as goal
 
@@ -9,7 +9,7 @@ returns-then-k-n g c ws s =
     let k = c.args.k in
     let b = apart g.A.FromBytes.slices g.B.FromBytes.slices g.A.FromBytes.kept g.B.FromBytes.kept g.A.Kind.format g.B.Kind.format c.args.form.now ws s in
     let n = (c.lawful.ensures.given _ _ b.left.accepted).0.count in
-    c.form_slice_len.ensures ws b.left ∙ sym (ap (λ ss. slice_length ss k) b.giving ∙ slice_length-left _ _ k (omega (arith, n, c.slice_count-n.ensures)))
+    c.form_slice_len.ensures ws b.left ∙ sym (ap (λ ss. slice_length ss k) b.giving ∙ slice_length_left _ _ k (omega (arith, n, c.slice_count-n.ensures)))
 
 pub returns : goal.returns
 returns g c ws s =
@@ -21,4 +21,4 @@ returns g c ws s =
     let e : c.slice_count-n.result ≡ length ls = omega (arith, n, c.slice_count-n.ensures) in
     c.form_slice_len-2.ensures ws b.right
     ∙ ap (λ m. slice_length rs (k - m)) e
-    ∙ sym (ap (λ ss. slice_length ss k) b.giving ∙ slice_length-right ls rs k (omega (arith, e)) (λ h. omega arith))
+    ∙ sym (ap (λ ss. slice_length ss k) b.giving ∙ slice_length_right ls rs k (omega (arith, e)) (λ h. omega arith))
