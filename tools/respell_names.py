@@ -1,14 +1,17 @@
 #!/usr/bin/env python3
-"""Spells the names that specs/ and proofs/ declare in snake case, in every text of the repository, and renames the crate
-`bytes`, whose name a library of the kit has, to `storage`. The library's AllByRecursion, which may not be imported under the name
-All, is called by its own. In a lemma's name a dash stays between two names alone, and else becomes an underscore, as lemma_names.tsv
-beside this file lists.
+"""Spells the names that specs/ and proofs/ declare as today's Rattle does, in the .antt, .rt, .edit and .md files of this repository
+but for docs/PORT*, and renames the crate `bytes`, whose name a library of the kit has, to `storage` (its folder, crates.txt, `use` lines
+and paths).
 
-usage: tools/respell_names.py [--list]
+usage: tools/respell_names.py [--list]      at the top of the repository
 
-wordsFor becomes words_for, fromBits-append becomes from_bits-append. Names of types, modules and facts keep their capitals,
-and names of Rust sources are not touched. It rewrites the .antt, .rt, .edit and .md files of this repository in place; a second
-run changes nothing. --list prints the table and writes nothing.
+wordsFor becomes words_for, fromBits-append becomes from_bits-append. Names of types, modules and facts keep their capitals. BY_HAND and
+GIVEN have the names that are turned in another way. In a lemma's name a dash mostly stays between two names alone and else becomes an
+underscore; lemma_names.tsv beside this file lists these. The library's AllByRecursion, which may not be imported under the name All, is
+called by its own.
+It goes by text, so a name of Rust that is spelled like one of these would turn too: a line that begins 'look:' names what becomes a name
+that was there already. It rewrites files in place; a second run changes nothing. --list prints the declared names that turn and those of
+GIVEN, and writes nothing.
 """
 
 import functools
