@@ -27,20 +27,20 @@ digits_number b zero (d ∷ ds) h l = absurd (omega arith)
 digits_number b (suc n) (d ∷ ds) h l =
     rw (low_digit b d (number b ds) h.0, high_digits b d (number b ds) h.0, suc-sub-suc) (ap (λ es. d ∷ es) (digits_number b n ds h.1 (omega arith)))
 
-pub digits-number_all : (b : ℕ) (ds : List ℕ) (n : ℕ) → AllByRecursion (λ d. d < b) ds → length ds ≡ n → digits b n (number b ds) ≡ ds
-digits-number_all b ds n h l =
+pub digits_number_all : (b : ℕ) (ds : List ℕ) (n : ℕ) → AllByRecursion (λ d. d < b) ds → length ds ≡ n → digits b n (number b ds) ≡ ds
+digits_number_all b ds n h l =
     let z : n - length ds ≡ 0 = omega arith in
     digits_number b n ds h (omega arith) ∙ rw z (append-nil ds)
 
 -- the number of the n lowest digits, and the digits of what has no more
-pub number-digits_low : (b n w : ℕ) → 0 < b → number b (digits b n w) ≡ w % b ^ n
-number-digits_low b zero w p = rw (pow-zero, mod-one)
-number-digits_low b (suc n) w p =
+pub number_digits_low : (b n w : ℕ) → 0 < b → number b (digits b n w) ≡ w % b ^ n
+number_digits_low b zero w p = rw (pow-zero, mod-one)
+number_digits_low b (suc n) w p =
     let q : 0 < b ^ n = omega (arith, one-le-pow n b p) in
-    rw (number-digits_low b n (w / b) p, pow-suc, mod-mul w q p) (omega (arith, mul_comm b (w / b % b ^ n)))
+    rw (number_digits_low b n (w / b) p, pow-suc, mod-mul w q p) (omega (arith, mul_comm b (w / b % b ^ n)))
 
 pub number_digits : (b n w : ℕ) → 0 < b → w < b ^ n → number b (digits b n w) ≡ w
-number_digits b n w p h = number-digits_low b n w p ∙ mod-eq_of_lt h
+number_digits b n w p h = number_digits_low b n w p ∙ mod-eq_of_lt h
 
 pub take-digits : (b k n w : ℕ) → k ≤ n → take k (digits b n w) ≡ digits b k w
 take-digits b zero n w h = refl
@@ -173,8 +173,8 @@ module _ (b k : ℕ) where
   map-digits [] p h = refl
   map-digits (w ∷ ws) p h = rw (number_digits b k w p h.0, map-digits ws p h.1)
 
-  pub all_length-digits : (ws : List ℕ) → AllByRecursion (λ w. length (digits b k w) ≡ k) ws
-  all_length-digits = all_always (λ w. length (digits b k w) ≡ k) (length_digits b k)
+  pub all_length_digits : (ws : List ℕ) → AllByRecursion (λ w. length (digits b k w) ≡ k) ws
+  all_length_digits = all_always (λ w. length (digits b k w) ≡ k) (length_digits b k)
 
   pub chunks-digits : (ws : List ℕ) → 0 < b → AllByRecursion (λ w. w < b ^ k) ws → map (number b) (chunks k (length ws) (flat_map (digits b k) ws)) ≡ ws
-  chunks-digits ws p h = rw (chunks_joined_all (digits b k) k ws (all_length-digits ws)) (map-digits ws p h)
+  chunks-digits ws p h = rw (chunks_joined_all (digits b k) k ws (all_length_digits ws)) (map-digits ws p h)

@@ -6,10 +6,10 @@ use Rattle.std.proofs.ByRecursion.{All-take}
 use Rattle.std.proofs.lemmas.List.{drop_all}
 use Rattle.area.specs.Digits.{number, digits, chunks}
 use Rattle.area.specs.Slice.{Slice, words_for, spill, pack, of_bytes, of_words, contents, WellFormed, ZeroPadded, weight}
-use Rattle.area.proofs.DigitLemmas.{all_always, all_joined, all_length-digits, all_replicate, chunks-digits, chunks_under, digits_under, joined_digits, length-chunks, length_joined}
+use Rattle.area.proofs.DigitLemmas.{all_always, all_joined, all_length_digits, all_replicate, chunks-digits, chunks_under, digits_under, joined_digits, length-chunks, length_joined}
 
 pub length-spill : (ws : List ℕ) → length (spill ws) ≡ 8 * length ws
-length-spill ws = length_joined (digits 256 8) 8 ws (all_length-digits 256 8 ws)
+length-spill ws = length_joined (digits 256 8) 8 ws (all_length_digits 256 8 ws)
 
 pub spill_under : (ws : List ℕ) → AllByRecursion (λ b. b < 256) (spill ws)
 spill_under ws = all_joined (λ b. b < 256) (digits 256 8) ws (all_always (λ w. AllByRecursion (λ b. b < 256) (digits 256 8 w)) (λ w. digits_under 256 8 w (lit< tt)) ws)

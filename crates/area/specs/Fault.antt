@@ -1,5 +1,5 @@
 -- Every refusal with its number and the question that it answers with no.
-use Rattle.std.specs.Prelude.{ℕ}
+use Rattle.std.specs.Prelude.{ℕ, List, ◌++◌, codes, decimal}
 use Rattle.area.specs.declared.fault.Fault.{Fault}
 use Rattle.area.specs.declared.fault.Refusal.{Refusal}
 use Rattle.area.specs.declared.fault.Refusal.TheVariants.{ByteLength, NoWord, FirstWord, IndexCut, SliceCount, EndOutside, EndBeforeStart, SliceSize, SliceContent, OutOfRange, BitCount, NotTaken, NotTyped, NoRoom, ImageTooLong, WindowOutside, UnknownRecord}
@@ -43,3 +43,7 @@ number_of ImageTooLong = 15
 number_of WindowOutside = 16
 -- is the kind known, the record whole, and its bad byte 0 or 1?
 number_of UnknownRecord = 17
+
+-- a refusal as text: the word `refused`, the number and the place, with a space between
+abbrev pub refusal_text : Fault → List ℕ
+refusal_text f = codes "refused " ++ (decimal (number_of f.refusal) ++ (codes " " ++ decimal f.place))

@@ -1,27 +1,30 @@
 // A refusal carries the number of the first question that fails, and the place where it fails.
-ghost use Rattle.std.specs.Prelude.{◌≡◌};
-ghost use Rattle.area.specs.Fault.{number_of, refuse};
+ghost use Rattle.std.specs.Prelude.{◌≡◌, Some};
+ghost use Rattle.area.specs.Fault.{number_of, refuse, refusal_text};
 
-// The questions, by what a `no` means. docs/REFUSALS.md has each with its place.
+use std::fmt;
+
+// The questions, by what a `no` means, each with the number by which the format's description names it. docs/REFUSALS.md
+// has each with its place.
 #[derive(Clone, Copy, PartialEq, Eq, Debug)]
 pub enum Refusal {
-    ByteLength,
-    NoWord,
-    FirstWord,
-    IndexCut,
-    SliceCount,
-    EndOutside,
-    EndBeforeStart,
-    SliceSize,
-    SliceContent,
-    OutOfRange,
-    BitCount,
-    NotTaken,
-    NotTyped,
-    NoRoom,
-    ImageTooLong,
-    WindowOutside,
-    UnknownRecord,
+    ByteLength = 1,
+    NoWord = 2,
+    FirstWord = 3,
+    IndexCut = 4,
+    SliceCount = 5,
+    EndOutside = 6,
+    EndBeforeStart = 7,
+    SliceSize = 8,
+    SliceContent = 9,
+    OutOfRange = 10,
+    BitCount = 11,
+    NotTaken = 12,
+    NotTyped = 13,
+    NoRoom = 14,
+    ImageTooLong = 15,
+    WindowOutside = 16,
+    UnknownRecord = 17,
 }
 
 // What every refused call answers.
@@ -36,25 +39,7 @@ impl Refusal {
     pub fn number(self) -> u32
         ensures { result ≡ number_of self }
     {
-        match self {
-            Refusal::ByteLength => 1,
-            Refusal::NoWord => 2,
-            Refusal::FirstWord => 3,
-            Refusal::IndexCut => 4,
-            Refusal::SliceCount => 5,
-            Refusal::EndOutside => 6,
-            Refusal::EndBeforeStart => 7,
-            Refusal::SliceSize => 8,
-            Refusal::SliceContent => 9,
-            Refusal::OutOfRange => 10,
-            Refusal::BitCount => 11,
-            Refusal::NotTaken => 12,
-            Refusal::NotTyped => 13,
-            Refusal::NoRoom => 14,
-            Refusal::ImageTooLong => 15,
-            Refusal::WindowOutside => 16,
-            Refusal::UnknownRecord => 17,
-        }
+        self as u32
     }
 }
 
@@ -72,3 +57,14 @@ impl Fault {
         Fault { refusal, place }
     }
 }
+
+// The number of the refusal and the place, as the programs print them.
+impl fmt::Display for Fault {
+    ghost output = { λ f. Some (refusal_text f) };
+
+    fn fmt<W: fmt::Write>(&self, f: &mut fmt::Formatter<W>) -> fmt::Result {
+        write!(f, "refused {} {}", self.refusal.number(), self.place)
+    }
+}
+
+impl std::error::Error for Fault {}

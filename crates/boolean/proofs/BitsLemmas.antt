@@ -1,24 +1,29 @@
 -- Bits as numbers: lists of bits joined and cut, shifted words, how many of a run of bits are taken, and the bits at a place.
-use Rattle.std.proofs.Common.{◌≡◌, ℕ, zero, suc, ◌+◌, ◌-◌, ◌*◌, ◌/◌, ◌%◌, ◌^◌, ◌<◌, ◌≤◌, Bool, true, false, cond, eqb, ltb, leb, List, [], ◌∷◌, ◌++◌, length, get_or, take, drop, Ok, Err, sym, refl, ap, ◌∙◌, subst, ap₂, ⊎_elim, append_assoc, mod-eq_of_lt, mul_assoc, mul_comm, add_comm, mul-zero, mul-suc, div-one, arith, length-append, length-take}
+use Rattle.std.proofs.Common.{◌≡◌, ℕ, zero, suc, ◌+◌, ◌-◌, ◌*◌, ◌/◌, ◌%◌, ◌^◌, ◌<◌, ◌≤◌, Bool, true, false, cond, eqb, ltb, leb, List, [], ◌∷◌, ◌++◌, length, get_or, take, drop, drop-cons, Ok, Err, Result, sym, refl, ap, ◌∙◌, subst, ap₂, ⊎_elim, append_assoc, mod-eq_of_lt, mul_assoc, mul_comm, add_comm, mul-zero, mul-suc, div-one, arith, length-append, length-take}
 use native.Mathlib.Nat.{pow-succ', pow-le-pow_right, pow-zero, div-eq_of_lt, mul-mod_left}
 use lib.Bits.{bit_and, bit_or, or_shifted_r}
 use lib.Dec.{eqb-zero-suc, eqb-suc-suc}
 use lib.Pow.{mod-mod-pow}
 use lib.Seq.{take-append-add}
-use Rattle.std.specs.List.{flat_map, AllByRecursion}
-use Rattle.std.proofs.lemmas.Nat.{shl-shr, shr-shr, shr_high, mod_low, mod-pow-add, field_of, mod_below, pow_pos, shr_le, one_shl, and_mask}
-use Rattle.std.proofs.ByRecursion.{All-append}
+use Rattle.std.specs.Int.{from_bool}
+use Rattle.std.specs.List.{flat_map}
+use Rattle.std.specs.Result.{result_unwrap_or}
+use Rattle.std.proofs.lemmas.Nat.{shl-shr, shr-shr, shr_high, mod_low, mod-pow-add, field_of, mod_below, pow_pos, and_mask}
 use Rattle.std.proofs.lemmas.List.{take-append-drop, take_all, drop_all, take_at, length-take-le, length-drop, length_push}
-use Rattle.std.proofs.lemmas.Bool.{cases_lt, cond_both, and_parts, leb-true, ltb-true, lt-ltb, le-leb, eq-eqb, ne_eqb}
+use Rattle.std.proofs.lemmas.Bool.{cases_lt, cond_both, and_parts, leb-true, ltb-true, lt-ltb, le-leb, lt-leb, eq-eqb, ne_eqb}
 use Rattle.area.specs.Fault.{refuse}
+use Rattle.area.specs.Slice.{WellFormed}
 use Rattle.area.specs.declared.fault.Fault.{Fault}
-use Rattle.area.specs.declared.fault.Refusal.TheVariants.{NotTaken}
-use Rattle.boolean.specs.Bools.{from_bits, to_bits, groups, rest, held_bits, bools_takes, given_bits, bits_taken, bits_pushed, push_bits_answer, range_bits, word_at, BoolsSound}
+use Rattle.area.specs.declared.fault.Refusal.TheVariants.{NotTaken, OutOfRange}
+use Rattle.area.proofs.SliceLemmas.{of_words-formed}
+use Rattle.boolean.specs.Bools.{bit, from_bits, to_bits, groups, rest, held_bits, tail_slice, bools_takes, given_bits, bits_taken, bits_pushed, push_bits_answer, range_bits, word_at}
+use Rattle.boolean.specs.BoolsLaws.{Stands, length-to_bits, to_bits-from_bits, from_bits-to_bits, from_bits_low, from_bits_lt, length-held, held_stands, length_rest, rest_more, rest-full, bits_more}
 use Rattle.boolean.specs.declared.bools.Bools.{Bools}
-use Rattle.column.specs.Column.{Areas, taken, pushed, push_answer}
-use Rattle.column.specs.Kind.{L}
-use Rattle.boolean.proofs.BoolsLaws.{length-to_bits, to_bits-from_bits, from_bits-to_bits, from_bits_lt, length_rest, unique, rest_more, rest-full, length_bits, bits_more}
-use Rattle.column.proofs.WordLemmas.{all_words, every-words}
+use Rattle.column.specs.Column.{Areas, element, taken, pushed, push_answer}
+use Rattle.column.specs.Kind.{Held, L}
+use Rattle.column.specs.declared.kind.Index.{Ghosts as IndexMembers}
+use Rattle.column.proofs.ColumnLemmas.{element_at_lem, element_past}
+use Rattle.column.proofs.WordLemmas.{is_word}
 
 -- the number of joined and of cut bits
 pub from_bits-append : (xs ys : List Bool) → from_bits (xs ++ ys) ≡ from_bits xs + 2 ^ length xs * from_bits ys
@@ -114,27 +119,7 @@ module _ (below : Areas → List ℕ → ℕ → Bool) (a : Areas) where
       (λ t. eqb-zero-suc (length ys) ∙ sym t)))
       (cases_lt (length (rest xs)) 63)
 
--- Words, and a tail of the n bits of w after them.
-pub record Kept (ws : List ℕ) (n w : ℕ) : Type 0 where
-  pub words : AllByRecursion (λ x. x < 2 ^ 64) ws
-  pub few : n ≤ 63
-  pub clean : w < 2 ^ n
-  pub short : 64 * length ws + n ≤ L
-
-pub kept : {C : Type 0} {f : C → List ℕ} {sound : C → Type 0} {c : Bools C} → BoolsSound f sound c → Kept (f c.values) c.tail.count c.tail.word
-kept s = record { words = all_words _ s.words; few = s.tail.few; clean = s.tail.clean; short = s.short }
-
-pub sound_kept : {C : Type 0} {f : C → List ℕ} {sound : C → Type 0} {c : Bools C} → sound c.values → Kept (f c.values) c.tail.count c.tail.word → BoolsSound f sound c
-sound_kept h k = record { below = h; tail = record { few = k.few; clean = k.clean }; words = every-words _ k.words; short = k.short }
-
--- the word w of n bits with the bits of b above them
-abbrev pub filled : ℕ → ℕ → ℕ → ℕ
-filled w n b = bit_or w ((b * 2 ^ n) % 2 ^ 64)
-
-pub length-held : (ws : List ℕ) (n w : ℕ) → length (held_bits ws n w) ≡ 64 * length ws + n
-length-held ws n w = length-append (flat_map (to_bits 64) ws) (to_bits n w) ∙ ap₂ (λ x y. x + y) (length_bits ws) (length-to_bits n w)
-
--- what a push that was refused or taken leaves
+-- what a push that was refused or taken answered and left
 module _ {E : Type 0} (xs ys : List E) (x : E) where
   pub push_refused : (v : Bool) {f : Fault} → Err f ≡ push_answer v → ys ≡ pushed v xs x → (v ≡ false) × (f ≡ refuse NotTaken 0) × (ys ≡ xs)
   push_refused false e h = (refl, cc, h)
@@ -144,157 +129,201 @@ module _ {E : Type 0} (xs ys : List E) (x : E) where
   push-taken true e h = (refl, h)
   push-taken false e h = let z : ◌≡◌ {A = ℕ} 0 1 = cc in absurd (omega arith)
 
--- A push of the m lowest bits of b.
-pub record Given (b m : ℕ) : Type 0 where
-  pub most : m ≤ 64
-  pub under : b < 2 ^ m
+-- Words, and a tail of the n bits of w after them.
+pub record Kept (ws : List ℕ) (n w : ℕ) : Type 0 where
+  pub words : Held is_word ws
+  pub few : n ≤ 63
+  pub clean : w < 2 ^ n
+  pub short : 64 * length ws + n ≤ L
 
-pub given : (b m : ℕ) → true ≡ given_bits b m → Given b m
-given b m e = let p = and_parts (leb m 64) (ltb b (2 ^ m)) (sym e) in record { most = leb-true m 64 p.0; under = ltb-true b (2 ^ m) p.1 }
+pub kept : {C : Type 0} {v : IndexMembers C ℕ} {u : _} (c : Bools C v u) → Held is_word (v.list c.values) → Kept (v.list c.values) c.tail.count c.tail.word
+kept c words = record { words = words; few = c.few; clean = c.clean; short = c.short }
 
--- what is answered and what is left, by whether all are taken
-module _ (t : List Bool → Bool → Bool) (xs : List Bool) {b m : ℕ} (h : Given b m) {v : Bool} (e : bits_taken t xs b m ≡ v) where
-  pub bits_answer : push_answer v ≡ push_bits_answer t xs b m
-  bits_answer = rw (le-leb m 64 h.most, lt-ltb b (2 ^ m) h.under, e)
+-- the word w of n bits with the bits of b above them
+abbrev pub filled : ℕ → ℕ → ℕ → ℕ
+filled w n b = bit_or w ((b * 2 ^ n) % 2 ^ 64)
 
-  pub bits_list : cond v (xs ++ to_bits m b) xs ≡ bits_pushed t xs b m
-  bits_list = rw (le-leb m 64 h.most, lt-ltb b (2 ^ m) h.under, e)
-
--- words and a tail that hold xs
-pub record Grown (xs : List Bool) (ws : List ℕ) (n w : ℕ) : Type 0 where
-  pub stays : Kept ws n w
-  pub list : held_bits ws n w ≡ xs
+-- what a push of the m lowest bits of b to xs answers and leaves
+pub record Pushed (t : List Bool → Bool → Bool) (xs : List Bool) (b m : ℕ) (r : Result (Unit {0}) Fault) (ys : List Bool) : Type 0 where
+  pub answer : r ≡ push_bits_answer t xs b m
+  pub after : ys ≡ bits_pushed t xs b m
 
 module _ {ws : List ℕ} {n w : ℕ} (k : Kept ws n w) where
-  stands : (groups (held_bits ws n w) ≡ ws) × (rest (held_bits ws n w) ≡ to_bits n w)
-  stands = unique (held_bits ws n w) ws (to_bits n w) refl (omega (arith, length-to_bits n w)) k.words
+  abbrev held : List Bool
+  held = held_bits ws n w
 
-  valid : n % 64 ≡ n
-  valid = omega arith
+  stands : Stands held ws (to_bits n w)
+  stands = held_stands ws n w k.words k.few
 
-  module _ {b m : ℕ} (g : Given b m) where
+  pub length_most : length held ≤ L
+  length_most = omega (arith, length-held ws n w, k.short)
+
+  module _ (b m : ℕ) (given : true ≡ given_bits b m) where
+    most : m ≤ 64
+    most = leb-true m 64 (and_parts (leb m 64) (ltb b (2 ^ m)) (sym given)).0
+
+    under : b < 2 ^ m
+    under = ltb-true b (2 ^ m) (and_parts (leb m 64) (ltb b (2 ^ m)) (sym given)).1
+
     from_bits_both : (j : ℕ) → j + n ≡ 64 → from_bits (to_bits n w ++ take j (to_bits m b)) ≡ filled w n b
     from_bits_both j e =
         from_bits-append (to_bits n w) (take j (to_bits m b))
-        ∙ (rw (length-to_bits n w, from_bits-to_bits n w k.clean, from_bits-take j (to_bits m b), from_bits-to_bits m b g.under, or_shl w b n j e k.clean)
+        ∙ (rw (length-to_bits n w, from_bits-to_bits n w k.clean, from_bits-take j (to_bits m b), from_bits-to_bits m b under, or_shl w b n j e k.clean)
         (omega (arith, mul_comm (2 ^ n) (b % 2 ^ j))))
 
-    module _ (room : m ≤ L - length (held_bits ws n w)) where
-      fits : length (held_bits ws n w) + m ≤ L
-      fits = omega (arith, length-held ws n w)
+    -- the words and the tail afterwards, which hold the bits too
+    pub record Grown (vs : List ℕ) (j x : ℕ) : Type 0 where
+      pub few : j ≤ 63
+      pub clean : x < 2 ^ j
+      pub short : 64 * length vs + j ≤ L
+      pub list : held_bits vs j x ≡ held ++ to_bits m b
 
+    module _ (room : m ≤ L - length held) where
       -- no word is completed
-      grown_below : n + m < 64 → Grown (held_bits ws n w ++ to_bits m b) ws (n + m) (filled w n b)
+      pub grown_below : n + m < 64 → Grown ws (n + m) (filled w n b)
       grown_below l =
           let bs = to_bits n w ++ to_bits m b in
           let number_is : from_bits bs ≡ filled w n b =
           ap (λ ys. from_bits (to_bits n w ++ ys)) (sym (take_all (64 - n) (to_bits m b) (omega (arith, length-to_bits m b)))) ∙ from_bits_both (64 - n) (omega arith) in
           let length-is : length bs ≡ n + m = length-append (to_bits n w) (to_bits m b) ∙ ap₂ (λ x y. x + y) (length-to_bits n w) (length-to_bits m b) in
           record {
-            stays = record {
-              words = k.words;
-              few = omega arith;
-              clean = rw (number_is, length-is) at (from_bits_lt bs);
-              short = omega (arith, fits, length-held ws n w);
-            };
+            few = omega arith;
+            clean = rw (number_is, length-is) at (from_bits_lt bs);
+            short = omega (arith, room, length_most, length-held ws n w);
             list =
                 ap (λ ys. flat_map (to_bits 64) ws ++ ys) (to_bits_is (n + m) (filled w n b) bs length-is number_is)
                 ∙ sym (append_assoc (flat_map (to_bits 64) ws) (to_bits n w) (to_bits m b));
           }
 
-      -- a word is completed
-      grown_above : (j : ℕ) → j + n ≡ 64 → j ≤ m → Grown (held_bits ws n w ++ to_bits m b) (ws ++ filled w n b ∷ []) (m - j) (b / 2 ^ j)
-      grown_above j e l =
-          let new = to_bits m b in
-          let bs = to_bits n w ++ take j new in
-          let o = length-to_bits m b in
-          let length-is : length bs ≡ 64 = length-append (to_bits n w) (take j new) ∙ omega (arith, length-to_bits n w, length-take-le j new (omega arith)) in
-          let length-left : length (drop j new) ≡ m - j = length-drop j new ∙ ap (λ x. x - j) o in
-          let number-left : from_bits (drop j new) ≡ b / 2 ^ j = from_bits-drop j new ∙ ap (λ x. x / 2 ^ j) (from_bits-to_bits m b g.under) in
-          let word : filled w n b < 2 ^ 64 = rw (from_bits_both j e, length-is) at (from_bits_lt bs) in
-          record {
-            stays = record {
-              words = All-append (λ x. x < 2 ^ 64) ws (filled w n b ∷ []) k.words (word, tt);
-              few = omega arith;
+      -- a word is completed, which the column below takes; a shift by all 64 bits leaves none
+      module _ (l : 64 ≤ n + m) {u : Unit {0}} (v : Bool) (ok : Ok u ≡ push_answer v) (vs : List ℕ) (after : vs ≡ pushed v ws (filled w n b)) (x : ℕ) (shifted : x ≡ cond (ltb (64 - n) 64) (b / 2 ^ (64 - n)) 0) where
+        more : vs ≡ ws ++ filled w n b ∷ []
+        more = (push-taken ws vs (filled w n b) v ok after).1
+
+        left : x ≡ b / 2 ^ (64 - n)
+        left = ⊎_elim
+            (λ (h : 64 - n < 64). shifted ∙ ap (λ t. cond t (b / 2 ^ (64 - n)) 0) (lt-ltb (64 - n) 64 h))
+            (λ (h : 64 ≤ 64 - n).
+            let j : 64 - n ≡ 64 = omega arith in
+            let p : 0 < 2 = omega arith in
+            shifted ∙ rw j (sym (div-eq_of_lt (omega (arith, under, pow-le-pow_right p most)))))
+            (cases_lt (64 - n) 64)
+
+        pub grown_above : Grown vs (n + m - 64) x
+        grown_above =
+            let j = 64 - n in
+            let new = to_bits m b in
+            let bs = to_bits n w ++ take j new in
+            let e : j + n ≡ 64 = omega (arith, k.few) in
+            let o = length-to_bits m b in
+            let length-is : length bs ≡ 64 = length-append (to_bits n w) (take j new) ∙ omega (arith, length-to_bits n w, length-take-le j new (omega arith)) in
+            let length-left : length (drop j new) ≡ n + m - 64 = length-drop j new ∙ omega (arith, o, e) in
+            let number-left : from_bits (drop j new) ≡ x = from_bits-drop j new ∙ ap (λ y. y / 2 ^ j) (from_bits-to_bits m b under) ∙ sym left in
+            record {
+              few = omega (arith, k.few, most);
               clean = rw (number-left, length-left) at (from_bits_lt (drop j new));
-              short = omega (arith, fits, length-held ws n w, length_push ws (filled w n b));
-            };
-            list =
-                ap₂ (λ v ys. flat_map (to_bits 64) (ws ++ v ∷ []) ++ ys) (sym (from_bits_both j e)) (to_bits_is (m - j) (b / 2 ^ j) (drop j new) length-left number-left)
-                ∙ ap (λ ys. ys ++ drop j new) (bits_more ws bs length-is)
-                ∙ simp append_assoc (ap (λ ys. flat_map (to_bits 64) ws ++ (to_bits n w ++ ys)) (take-append-drop j new));
-          }
+              short = omega (arith, room, length_most, length-held ws n w, ap length more, length_push ws (filled w n b));
+              list =
+                  ap₂ (λ us ys. flat_map (to_bits 64) us ++ ys) (more ∙ ap (λ v. ws ++ v ∷ []) (sym (from_bits_both j e))) (to_bits_is (n + m - 64) x (drop j new) length-left number-left)
+                  ∙ ap (λ ys. ys ++ drop j new) (bits_more ws bs length-is)
+                  ∙ simp append_assoc (ap (λ ys. flat_map (to_bits 64) ws ++ (to_bits n w ++ ys)) (take-append-drop j new));
+            }
 
-      -- the same, as the code has it
-      pub grown_short : n % 64 + m < 64 → Grown (held_bits ws n w ++ to_bits m b) ws (n % 64 + m) (filled w (n % 64) b)
-      grown_short = rw valid grown_below
-
-      pub grown_full : (vs : List ℕ) (x : ℕ) → vs ≡ ws ++ filled w (n % 64) b ∷ [] → x ≡ b / 2 ^ (64 - n % 64) → 64 ≤ n % 64 + m → Grown (held_bits ws n w ++ to_bits m b) vs (n % 64 + m - 64) x
-      grown_full vs x e f l =
-          let q : n % 64 + m - 64 ≡ m - (64 - n) = omega arith in
-          rw (q, e, f, valid) (grown_above (64 - n) (omega arith) (omega arith))
-
-    pub left_none : n % 64 ≡ 0 → b / 2 ^ (64 - n % 64) ≡ 0
-    left_none e =
-        let p : 0 < 2 = omega arith in
-        rw e (div-eq_of_lt (omega (arith, pow-le-pow_right p g.most)))
-
-    -- whether they are taken
     module _ (below : Areas → List ℕ → ℕ → Bool) (a : Areas) where
+      abbrev takes : List Bool → Bool → Bool
+      takes = bools_takes below a
+
       abbrev all_taken : Bool
-      all_taken = bits_taken (bools_takes below a) (held_bits ws n w) b m
+      all_taken = bits_taken takes held b m
 
-      pub taken_none : L - length (held_bits ws n w) < m → all_taken ≡ false
-      taken_none h =
-          ne_eqb (taken (bools_takes below a) (held_bits ws n w) (to_bits m b)) m
-          (λ q. omega (arith, taken_room (bools_takes below a) (takes_room below a) (held_bits ws n w) (to_bits m b) (omega (arith, length-held ws n w))))
+      -- what is answered and left, by whether all are taken
+      by_taken : (v : Bool) → all_taken ≡ v → Pushed takes held b m (push_answer v) (cond v (held ++ to_bits m b) held)
+      by_taken v e = record {
+        answer = rw (le-leb m 64 most, lt-ltb b (2 ^ m) under, e);
+        after = rw (le-leb m 64 most, lt-ltb b (2 ^ m) under, e);
+      }
 
-      module _ (room : m ≤ L - length (held_bits ws n w)) where
-        pub taken_all : n % 64 + m < 64 → all_taken ≡ true
+      pub no_room : L - length held < m → (f : Fault) → f ≡ refuse NotTaken 0 → Pushed takes held b m (Err f) held
+      no_room h f e = rw e
+          (by_taken false
+          (ne_eqb (taken takes held (to_bits m b)) m (λ q. omega (arith, taken_room takes (takes_room below a) held (to_bits m b) length_most))))
+
+      module _ (room : m ≤ L - length held) where
+        pub taken_all : n + m < 64 → all_taken ≡ true
         taken_all s =
-            let f = fits room in
             let r = ap length stands.1 in
             let o = length-to_bits n w in
             let p = length-to_bits m b in
-            eq-eqb (taken (bools_takes below a) (held_bits ws n w) (to_bits m b)) m (taken-short below a (held_bits ws n w) (to_bits m b) (omega arith) (omega arith) ∙ p)
+            let f = length_most in
+            eq-eqb (taken takes held (to_bits m b)) m (taken-short below a held (to_bits m b) (omega arith) (omega arith) ∙ p)
 
-        pub taken-filled : 64 ≤ n % 64 + m → all_taken ≡ below a ws (filled w (n % 64) b)
+        pub pushed_below : n + m < 64 → Pushed takes held b m (Ok tt) (held_bits ws (n + m) (filled w n b))
+        pushed_below s = rw (grown_below room s).list (by_taken true (taken_all s))
+
+        pub taken-filled : 64 ≤ n + m → all_taken ≡ below a ws (filled w n b)
         taken-filled s =
-            let xs = held_bits ws n w in
             let old = to_bits n w in
             let new = to_bits m b in
-            let f = fits room in
             let r = ap length stands.1 in
             let o = length-to_bits n w in
             let p = length-to_bits m b in
-            let q : 64 ≡ length old + (64 - n) = omega arith in
-            ap (eqb (taken (bools_takes below a) xs new)) (sym p)
-            ∙ taken_word below a xs new (omega arith) (omega arith) (omega arith)
+            let f = length_most in
+            let q : 64 ≡ length old + (64 - n) = omega (arith, k.few) in
+            ap (eqb (taken takes held new)) (sym p)
+            ∙ taken_word below a held new (omega arith) (omega (arith, most)) (omega arith)
             ∙ ap₂ (λ vs bs. below a vs (from_bits (take 64 (bs ++ new)))) stands.0 stands.1
             ∙ ap (λ bs. below a ws (from_bits bs)) (ap (λ x. take x (old ++ new)) q ∙ take-append-add old new (64 - n))
-            ∙ ap (below a ws) (from_bits_both (64 - n) (omega arith) ∙ ap (λ x. filled w x b) (sym valid))
+            ∙ ap (below a ws) (from_bits_both (64 - n) (omega (arith, k.few)))
+
+        -- what the column below answers to the completed word
+        module _ (s : 64 ≤ n + m) (vs : List ℕ) (after : vs ≡ pushed (below a ws (filled w n b)) ws (filled w n b)) where
+          pub pushed_refused : (f : Fault) → Err f ≡ push_answer (below a ws (filled w n b)) → Pushed takes held b m (Err f) (held_bits vs n w)
+          pushed_refused f e =
+              let q = push_refused ws vs (filled w n b) (below a ws (filled w n b)) e after in
+              rw (q.1, q.2) (by_taken false (taken-filled s ∙ q.0))
+
+          pub pushed_above : {u : Unit {0}} → Ok u ≡ push_answer (below a ws (filled w n b)) → (x : ℕ) → x ≡ cond (ltb (64 - n) 64) (b / 2 ^ (64 - n)) 0 → Pushed takes held b m (Ok tt) (held_bits vs (n + m - 64) x)
+          pushed_above e x shifted = rw (grown_above room s (below a ws (filled w n b)) e vs after x shifted).list
+              (by_taken true (taken-filled s ∙ (push-taken ws vs (filled w n b) (below a ws (filled w n b)) e after).0))
+
+-- one element is taken as a push of one bit is
+pub one_given : (x : Bool) → true ≡ given_bits (from_bool x) 1
+one_given true = refl
+one_given false = refl
+
+one-taken : (t : List Bool → Bool → Bool) (xs : List Bool) (x : Bool) → bits_taken t xs (from_bool x) 1 ≡ t xs x
+one-taken t xs true = elim (t xs true) as (λ v. eqb (cond v 1 0) 1 ≡ v) [ true ↦ refl | false ↦ refl ]
+one-taken t xs false = elim (t xs false) as (λ v. eqb (cond v 1 0) 1 ≡ v) [ true ↦ refl | false ↦ refl ]
+
+module _ {ws : List ℕ} {n w : ℕ} (k : Kept ws n w) (below : Areas → List ℕ → ℕ → Bool) (a : Areas) (x : Bool) (room : length (held_bits ws n w) < L) where
+  pub takes_few : n < 63 → true ≡ bools_takes below a (held_bits ws n w) x
+  takes_few h = sym (taken_all k (from_bool x) 1 (one_given x) below a (omega arith) (omega arith)) ∙ one-taken (bools_takes below a) (held_bits ws n w) x
+
+  pub takes_full : (b : ℕ) → 63 ≤ n → b ≡ from_bool x → below a ws (filled w 63 b) ≡ bools_takes below a (held_bits ws n w) x
+  takes_full b h e =
+      let q : 63 ≡ n = omega (arith, k.few) in
+      ap₂ (λ j v. below a ws (filled w j v)) q e
+      ∙ sym (taken-filled k (from_bool x) 1 (one_given x) below a (omega arith) (omega arith)) ∙ one-taken (bools_takes below a) (held_bits ws n w) x
 
 -- The bits at a place.
 -- word k of the number that words of j bits and a tail write
-module _ (j n w : ℕ) (few : n ≤ j) (clean : w < 2 ^ n) where
+module _ (j n w : ℕ) (clean : w < 2 ^ n) where
   abbrev written : List ℕ → ℕ
   written ws = from_bits (flat_map (to_bits j) ws ++ to_bits n w)
 
-  first_word : (v : ℕ) (ws : List ℕ) → v < 2 ^ j → written (v ∷ ws) ≡ written ws * 2 ^ j + v
-  first_word v ws h =
+  first_word : (v : ℕ) (ws : List ℕ) → written (v ∷ ws) ≡ written ws * 2 ^ j + v % 2 ^ j
+  first_word v ws =
       ap from_bits (append_assoc (to_bits j v) (flat_map (to_bits j) ws) (to_bits n w))
       ∙ from_bits-append (to_bits j v) (flat_map (to_bits j) ws ++ to_bits n w)
-      ∙ (rw (length-to_bits j v, from_bits-to_bits j v h) (omega (arith, mul_comm (2 ^ j) (written ws))))
+      ∙ (rw (length-to_bits j v, from_bits_low j v) (omega (arith, mul_comm (2 ^ j) (written ws))))
 
-  pub word_of : (ws : List ℕ) → AllByRecursion (λ x. x < 2 ^ j) ws → (k : ℕ) → k ≤ length ws → written ws / 2 ^ (j * k) % 2 ^ j ≡ get_or ws k w
-  word_of [] words zero h =
-      let p : 0 < 2 = omega arith in
-      rw (mul-zero, pow-zero, div-one, from_bits-to_bits n w clean) (mod-eq_of_lt (omega (arith, pow-le-pow_right p few)))
-  word_of [] words (suc k) h = absurd (omega arith)
-  word_of (v ∷ ws) words zero h = rw (mul-zero, pow-zero, div-one, first_word v ws words.0) (mod_low (written ws) j v words.0)
-  word_of (v ∷ ws) words (suc k) h =
-      rw (first_word v ws words.0, mul-suc, add_comm (j * k) j, ← shr-shr (written ws * 2 ^ j + v) j (j * k), shr_high (written ws) j v words.0)
-      (word_of ws words.1 k (omega arith))
+  pub word_of : (ws : List ℕ) (k : ℕ) → k ≤ length ws → written ws / 2 ^ (j * k) % 2 ^ j ≡ get_or ws k w % 2 ^ j
+  word_of [] zero h = rw (mul-zero, pow-zero, div-one, from_bits-to_bits n w clean)
+  word_of [] (suc k) h = absurd (omega arith)
+  word_of (v ∷ ws) zero h = rw (mul-zero, pow-zero, div-one, first_word v ws) (mod_low (written ws) j (v % 2 ^ j) (mod_below v (2 ^ j) (pow_pos j)))
+  word_of (v ∷ ws) (suc k) h =
+      rw (first_word v ws, mul-suc, add_comm (j * k) j, ← shr-shr (written ws * 2 ^ j + v % 2 ^ j) j (j * k), shr_high (written ws) j (v % 2 ^ j) (mod_below v (2 ^ j) (pow_pos j)))
+      (word_of ws k (omega arith))
 
 module _ (r v : ℕ) (v-is : r % 2 ^ 64 ≡ v) (s k : ℕ) (e : s + k ≡ 64) where
   -- one word, shifted down by s
@@ -312,13 +341,11 @@ module _ (r v : ℕ) (v-is : r % 2 ^ 64 ≡ v) (s k : ℕ) (e : s + k ≡ 64) wh
       ∙ sym (or_shl (v / 2 ^ s) u k s e small)
 
 -- x has the m bits at place i lowest
-pub record Reads (xs : List Bool) (i m x : ℕ) : Type 0 where
-  pub inside : i + m ≤ length xs
-  pub word : x < 2 ^ 64
-  pub bits : from_bits (take m (drop i xs)) ≡ x % 2 ^ m
+abbrev pub Reads : List Bool → ℕ → ℕ → ℕ → Type 0
+Reads xs i m x = from_bits (take m (drop i xs)) ≡ x % 2 ^ m
 
 -- the m bits at place i, of one word or of two
-module _ {ws : List ℕ} {n w : ℕ} (k : Kept ws n w) (i m : ℕ) (h : i + m ≤ length (held_bits ws n w)) (some : 0 < m) where
+module _ (ws : List ℕ) (n w : ℕ) (few : n ≤ 63) (clean : w < 2 ^ n) (i m : ℕ) (h : i + m ≤ length (held_bits ws n w)) where
   abbrev whole : ℕ
   whole = from_bits (held_bits ws n w)
 
@@ -333,44 +360,65 @@ module _ {ws : List ℕ} {n w : ℕ} (k : Kept ws n w) (i m : ℕ) (h : i + m �
       ∙ ap (λ x. x % 2 ^ m) (from_bits-drop i (held_bits ws n w) ∙ ap (λ x. whole / 2 ^ x) e ∙ sym (shr-shr whole (64 * (i / 64)) (i % 64)))
       ∙ sym (mod-mod-pow (from / 2 ^ (i % 64)) (j - m) m) ∙ ap (λ x. from / 2 ^ (i % 64) % 2 ^ x % 2 ^ m) f
 
-  first : from % 2 ^ 64 ≡ get_or ws (i / 64) w
-  first = word_of 64 n w (omega arith) k.clean ws k.words (i / 64) (omega (arith, length-held ws n w))
+  module _ (v : ℕ) (v-is : v ≡ word_at ws w (i / 64)) (v-fits : v < 2 ^ 64) where
+    first : from % 2 ^ 64 ≡ v
+    first = word_of 64 n w clean ws (i / 64) (omega (arith, length-held ws n w)) ∙ ap (λ x. x % 2 ^ 64) (sym v-is) ∙ mod-eq_of_lt v-fits
 
-  second : 64 < i % 64 + m → from / 2 ^ 64 % 2 ^ 64 ≡ get_or ws (i / 64 + 1) w
-  second l =
-      let e : 64 * (i / 64) + 64 ≡ 64 * (i / 64 + 1) = omega arith in
-      ap (λ x. x % 2 ^ 64) (shr-shr whole (64 * (i / 64)) 64 ∙ ap (λ x. whole / 2 ^ x) e)
-      ∙ word_of 64 n w (omega arith) k.clean ws k.words (i / 64 + 1) (omega (arith, length-held ws n w))
+    pub read_one : i % 64 + m ≤ 64 → (x : ℕ) → x ≡ v / 2 ^ (i % 64) → Reads (held_bits ws n w) i m x
+    read_one l x x-is =
+        let s = i % 64 in
+        read (64 - s) (omega arith) ∙ ap (λ y. y % 2 ^ m) (one_word from v first s (64 - s) (omega arith) ∙ sym x-is)
 
-  pub read_one : (v x : ℕ) → v ≡ word_at ws w (i / 64) → x ≡ v / 2 ^ (i % 64) → i % 64 + m ≤ 64 → Reads (held_bits ws n w) i m x
-  read_one v x v-is x-is l =
-      let s = i % 64 in
-      let one : from / 2 ^ s % 2 ^ (64 - s) ≡ x = one_word from v (first ∙ sym v-is) s (64 - s) (omega arith) ∙ sym x-is in
-      let under : v < 2 ^ 64 = subst (λ y. y < 2 ^ 64) (first ∙ sym v-is) (mod_below from (2 ^ 64) (pow_pos 64)) in
-      record {
-        inside = h;
-        word = omega (arith, shr_le v s);
-        bits = read (64 - s) (omega arith) ∙ ap (λ y. y % 2 ^ m) one;
-      }
+    pub read_two : 64 < i % 64 + m → m ≤ 64 → (u : ℕ) → u ≡ word_at ws w (i / 64 + 1) → u < 2 ^ 64 → (x : ℕ) → x ≡ filled (v / 2 ^ (i % 64)) (64 - i % 64) u → Reads (held_bits ws n w) i m x
+    read_two l q u u-is u-fits x x-is =
+        let s = i % 64 in
+        let e : 64 * (i / 64) + 64 ≡ 64 * (i / 64 + 1) = omega arith in
+        let second : from / 2 ^ 64 % 2 ^ 64 ≡ u =
+        ap (λ y. y % 2 ^ 64) (shr-shr whole (64 * (i / 64)) 64 ∙ ap (λ y. whole / 2 ^ y) e)
+        ∙ word_of 64 n w clean ws (i / 64 + 1) (omega (arith, length-held ws n w)) ∙ ap (λ y. y % 2 ^ 64) (sym u-is) ∙ mod-eq_of_lt u-fits in
+        read 64 q ∙ ap (λ y. y % 2 ^ m) (two_words from v first s (64 - s) (omega arith) u second ∙ sym x-is)
 
-  pub read_two : (v u x : ℕ) → v ≡ word_at ws w (i / 64) → u ≡ word_at ws w (i / 64 + 1) → x ≡ filled (v / 2 ^ (i % 64)) (64 - i % 64) u → 64 < i % 64 + m → m ≤ 64 → Reads (held_bits ws n w) i m x
-  read_two v u x v-is u-is x-is l q =
-      let s = i % 64 in
-      let two : from / 2 ^ s % 2 ^ 64 ≡ x = two_words from v (first ∙ sym v-is) s (64 - s) (omega arith) u (second l ∙ sym u-is) ∙ sym x-is in
-      record {
-        inside = h;
-        word = subst (λ y. y < 2 ^ 64) two (mod_below (from / 2 ^ s) (2 ^ 64) (pow_pos 64));
-        bits = read 64 q ∙ ap (λ y. y % 2 ^ m) two;
-      }
+-- the answer from such a number, whose other bits are masked
+pub masked : (xs : List Bool) (i m x : ℕ) → Reads xs i m x → i + m ≤ length xs → m ≤ 64 → (mask : ℕ) → mask ≡ 2 ^ m - 1 → Ok (bit_and x mask) ≡ range_bits xs i m
+masked xs i m x r inside l mask e =
+    rw (le-leb m 64 l, le-leb (i + m) (length xs) inside)
+    (ap Ok (ap (bit_and x) e ∙ and_mask x m ∙ sym r))
 
--- the answer from such a number
-module _ {xs : List Bool} {i m x : ℕ} (r : Reads xs i m x) where
-  pub masked : m < 64 → Ok (bit_and x ((1 * 2 ^ m) % 2 ^ 64 - 1)) ≡ range_bits xs i m
-  masked l =
-      rw (le-leb m 64 (omega arith), le-leb (i + m) (length xs) r.inside)
-      (ap Ok (ap (λ p. bit_and x (p - 1)) (one_shl m 64 l) ∙ and_mask x m ∙ sym r.bits))
+-- the word that the column below answers at a place, or else the tail
+pub word_found : (ws : List ℕ) (w k : ℕ) → result_unwrap_or (element ws k) w ≡ word_at ws w k
+word_found [] w k = refl
+word_found (v ∷ ws) w zero = refl
+word_found (v ∷ ws) w (suc k) = word_found ws w k
 
-  pub unmasked : m ≡ 64 → Ok x ≡ range_bits xs i m
-  unmasked q =
-      rw (le-leb m 64 (omega arith), le-leb (i + m) (length xs) r.inside)
-      (ap Ok (sym (r.bits ∙ ap (λ p. x % 2 ^ p) q ∙ mod-eq_of_lt r.word)))
+-- the element at a place, from the bit that is read there
+bit_back : (x : Bool) → eqb (bit x + 0) 1 ≡ x
+bit_back true = refl
+bit_back false = refl
+
+module _ (xs : List Bool) (i : ℕ) where
+  bit_there : i < length xs → range_bits xs i 1 ≡ Ok (bit (get_or xs i false) + 0)
+  bit_there l = rw (le-leb (i + 1) (length xs) (omega arith), drop-cons xs i false l)
+
+  bit_past : length xs ≤ i → range_bits xs i 1 ≡ Err (refuse OutOfRange 0)
+  bit_past l = rw (lt-leb (i + 1) (length xs) (omega arith))
+
+  pub bit_found : (v : ℕ) → Ok v ≡ range_bits xs i 1 → Ok (eqb v 1) ≡ element xs i
+  bit_found v e = ⊎_elim
+      (λ (l : i < length xs).
+      let q : v ≡ bit (get_or xs i false) + 0 = cc (e, bit_there l) in
+      ap (λ x. Ok (eqb x 1)) q ∙ ap Ok (bit_back (get_or xs i false)) ∙ sym (element_at_lem xs i false l))
+      (λ (l : length xs ≤ i). let z : ◌≡◌ {A = ℕ} 0 1 = cc (e, bit_past l) in absurd (omega arith))
+      (cases_lt i (length xs))
+
+  pub bit_refused : (f : Fault) → Err f ≡ range_bits xs i 1 → Err f ≡ element xs i
+  bit_refused f e = ⊎_elim
+      (λ (l : i < length xs). let z : ◌≡◌ {A = ℕ} 0 1 = cc (e, bit_there l) in absurd (omega arith))
+      (λ (l : length xs ≤ i). let q : f ≡ refuse OutOfRange 0 = cc (e, bit_past l) in ap Err q ∙ sym (element_past xs i l))
+      (cases_lt i (length xs))
+
+-- the slice of a tail
+pub tail-formed : (w n : ℕ) → n ≤ 63 → w < 2 ^ n → WellFormed (tail_slice w n)
+tail-formed w n few clean =
+    let p : 0 < 2 = omega arith in
+    let m : n ≤ 64 = omega arith in
+    of_words-formed (w ∷ n ∷ []) (omega (arith, pow-le-pow_right p m), (omega arith, tt))

@@ -1,4 +1,2 @@
 pub mod BitsLemmas
-pub mod BoolsLaws
-pub mod BoolsLemmas
 pub mod FormLemmas

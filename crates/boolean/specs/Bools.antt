@@ -1,15 +1,14 @@
 -- Bools: full groups of 64 elements as words of the kind below, the first element lowest, and the tail (word, count).
-use Rattle.std.specs.Prelude.{◌≡◌, ℕ, ◌+◌, ◌*◌, ◌/◌, ◌^◌, ◌≤◌, Bool, true, false, cond, ◌&&◌, ltb, List, [], ◌∷◌, ◌++◌, map, length, take, drop, Ok, Err, Result, ◌==◌, nat_eq, nat_le, nat_lt, slice_index_or}
+use Rattle.std.specs.Prelude.{ℕ, ◌+◌, ◌*◌, ◌/◌, ◌^◌, Bool, true, false, cond, ◌&&◌, List, [], ◌∷◌, ◌++◌, map, length, take, drop, Ok, Err, Result, ◌==◌, nat_eq, nat_le, nat_lt, slice_index_or}
 use Rattle.std.specs.List.{flat_map}
 use Rattle.area.specs.Digits.{number, digits, chunks}
 use Rattle.area.specs.Fault.{refuse}
 use Rattle.area.specs.Slice.{Slice, of_words}
 use Rattle.area.specs.declared.fault.Fault.{Fault}
 use Rattle.area.specs.declared.fault.Refusal.TheVariants.{OutOfRange, BitCount}
-use Rattle.boolean.specs.declared.bools.Bools.{Bools}
+use Rattle.boolean.specs.declared.tail.Tail.{Tail}
 use Rattle.column.specs.Column.{Areas, push_answer, taken}
-use Rattle.boolean.specs.Tail.{TailKept}
-use Rattle.column.specs.Kind.{Format, L, every, slot, word_of, least_words, first_refused, after, reading_within}
+use Rattle.column.specs.Kind.{CAP, Format, L, slot, word_of, least_words, first_refused, after, reading_within}
 
 abbrev pub bit : Bool → ℕ
 bit true = 1
@@ -33,11 +32,18 @@ rest xs = drop (64 * (length xs / 64)) xs
 abbrev pub held_bits : List ℕ → ℕ → ℕ → List Bool
 held_bits ws n w = flat_map (to_bits 64) ws ++ to_bits n w
 
+abbrev pub bools_list : List ℕ → Tail → List Bool
+bools_list ws t = held_bits ws t.count t.word
+
 abbrev pub tail_slice : ℕ → ℕ → Slice
 tail_slice w n = of_words (w ∷ n ∷ [])
 
 abbrev pub word_at : List ℕ → ℕ → ℕ → ℕ
 word_at ws w k = slice_index_or ws k w
+
+-- whether slice k is one of the n slices below, and not the tail's after them; else refusal 10
+abbrev pub below_slice : ℕ → ℕ → Result Bool Fault
+below_slice k n = cond (nat_le k n && nat_lt k CAP) (Ok (nat_lt k n)) (Err (refuse OutOfRange 0))
 
 -- bools whose words are of the kind W
 abbrev pub bools_format : Format ℕ → Format Bool
@@ -74,14 +80,3 @@ bits_pushed t xs w n = cond (given_bits w n && bits_taken t xs w n) (xs ++ to_bi
 -- n elements from a place on as a number
 abbrev pub range_bits : List Bool → ℕ → ℕ → Result ℕ Fault
 range_bits xs i n = cond (nat_le n 64) (cond (nat_le (i + n) (length xs)) (Ok (from_bits (take n (drop i xs)))) (Err (refuse OutOfRange 0))) (Err (refuse BitCount 0))
-
--- a column over another whose list is read by f
-module _ {C : Type 0} (f : C → List ℕ) where
-  abbrev pub bools_list : Bools C → List Bool
-  bools_list c = held_bits (f c.values) c.tail.count c.tail.word
-
-  pub record BoolsSound (sound : C → Type 0) (c : Bools C) : Type 0 where
-    pub below : sound c.values
-    pub tail : TailKept c.tail
-    pub words : every (λ x. ltb x (2 ^ 64)) (f c.values) ≡ true
-    pub short : 64 * length (f c.values) + c.tail.count ≤ L

@@ -1,3 +1,4 @@
 pub mod Bools
+pub mod BoolsLaws
 pub mod Tail
 pub mod Form

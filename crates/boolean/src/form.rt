@@ -1,17 +1,23 @@
 // The read form of bools, over the read form of the words below.
-ghost use Rattle.std.specs.Prelude.{◌≡◌, ℕ, List, [], ◌∷◌, ◌++◌};
-ghost use Rattle.boolean.specs.Bools.{range_bits, bools_format};
+ghost use Rattle.std.specs.Prelude.{◌≡◌, ℕ, ◌+◌, ◌-◌, ◌*◌, ◌^◌, ◌≤◌, min, List, [], ◌∷◌, ◌++◌};
+ghost use Rattle.std.specs.Option.{ok_or};
+ghost use Rattle.area.specs.Fault.{refuse};
+ghost use Rattle.area.specs.Slice.{of_words, words_for};
+ghost use Rattle.area.specs.declared.fault.Refusal.TheVariants.{SliceContent};
+ghost use Rattle.decode.specs.Decode.{Inside, slice_in};
+ghost use Rattle.boolean.specs.Bools.{bools_format, bools_list, range_bits};
 ghost use Rattle.read.specs.Form.{Stands, list_of};
-ghost use Rattle.boolean.specs.Form.{BoolsKept, bools_slices};
+ghost use Rattle.boolean.specs.Form.{BoolsKept, BoolsKept-prop, bools_slices, slice_tail};
 
-use crate::bools::Bools;
+use crate::bools::{Bools, is_below};
 use crate::tail::Tail;
 use area::fault::{Fault, Refusal};
-use column::kind::{Index, Kind, MAX_LEN, MAX_WORDS};
+use column::kind::{AsBytes, Index, Kind, MAX_LEN};
 use decode::decoded::DecodedStore;
 use decode::span::Span;
-use read::form::FromBytes;
+use read::form::{FromBytes, ReadForm};
 use read::view::View;
+use std::marker::PhantomData;
 use storage::store::Store;
 
 // The form of the words below, the place of the tail, and the tail's bits.
@@ -22,28 +28,65 @@ pub struct BoolsForm<F> {
     tail: Tail,
 }
 
-// `count` elements of a form from place `pos` on as a number, the first lowest. 11 where `count` is above 64, 10 where
+// How many elements so many words and a tail have.
+fn count_of(words: usize, tail: Tail) -> usize
+    ensures { result ≡ min (64 * words + tail.count) (2 ^ 64 - 1) }
+{
+    words.saturating_mul(64).saturating_add(tail.count as usize)
+}
+
+// The tail that a slice holds; 9 at the kind's first slice, `at`, where its count is above 63.
+fn tail_of<S: Store>(store: &S, place: Span, at: usize) -> Result<Tail, Fault>
+    ensures { Inside (S.Store.words store.now) place → 2 ≤ words_for place.bytes → result ≡ ok_or (slice_tail (slice_in (S.Store.words store.now) place)) (refuse SliceContent at) }
+{
+    let word = place.word(store, 0)?;
+    let count = place.word(store, 1)?;
+    Tail::stored(word, count).ok_or(Fault::at(Refusal::SliceContent, at))
+}
+
+// The bools of a view, over the view of the words below; the slices that the whole view gives are those of the words
+// and then the tail's, in whole words.
+fn bools_in<'f, 's, C: FromBytes<Elem = u64> + Index<Item = u64>, S: Store>(
+    view: &View<'f, 's, Bools<C>, S>,
+) -> Bools<View<'f, 's, C, S>>
+    ensures list { bools_list (list_of C.Kind.format (C.ReadForm.slices result.values.form.now (S.Store.words result.values.store.now))) result.tail ≡ list_of (bools_format C.Kind.format) (bools_slices C.ReadForm.slices view.now.form.now (S.Store.words view.now.store.now)) }
+    ensures slices { (bools_format C.Kind.format).giving (bools_slices C.ReadForm.slices view.now.form.now (S.Store.words view.now.store.now)) ≡ C.Kind.format.giving (C.ReadForm.slices result.values.form.now (S.Store.words result.values.store.now)) ++ of_words (slice_in (S.Store.words view.now.store.now) view.now.form.now.place).words ∷ [] }
+    ensures place { Inside (S.Store.words view.now.store.now) view.now.form.now.place }
+{
+    let values: View<C, S> = View {
+        form: &view.form.values,
+        store: view.store,
+        of: PhantomData,
+    };
+    Bools {
+        values,
+        tail: view.form.tail,
+    }
+}
+
+// `count` elements of a view from place `pos` on as a number, the first lowest. 11 where `count` is above 64, 10 where
 // the range passes the end.
-pub fn bits_at<C: FromBytes<Elem = u64>, S: Store>(
-    form: &BoolsForm<C::Form>,
-    store: &S,
+pub fn bits_at<C: FromBytes<Elem = u64> + Index<Item = u64>, S: Store>(
+    view: &View<'_, '_, Bools<C>, S>,
     pos: usize,
     count: usize,
 ) -> Result<u64, Fault>
-    ensures { Stands (bools_slices C.FromBytes.slices) (BoolsKept C.FromBytes.kept) (bools_format C.Kind.format) form.now (S.Store.words store.now) → result ≡ range_bits (list_of (bools_format C.Kind.format) (bools_slices C.FromBytes.slices form.now (S.Store.words store.now))) pos count }
+    ensures { result ≡ range_bits (list_of (bools_format C.Kind.format) (bools_slices C.ReadForm.slices view.now.form.now (S.Store.words view.now.store.now))) pos count }
 {
-    C::lawful();
-    let values: View<C, S> = View::new(&form.values, store);
-    Bools::over(values, form.tail).bits_at(pos, count)
+    bools_in(view).bits_at(pos, count)
 }
 
-impl<C: FromBytes<Elem = u64>> FromBytes for Bools<C> {
+impl<C: ReadForm<Elem = u64> + Index<Item = u64>> ReadForm for Bools<C> {
     type Form = BoolsForm<C::Form>;
 
-    ghost slices = { λ t ws. bools_slices C.FromBytes.slices t ws };
+    ghost slices = { λ t ws. bools_slices C.ReadForm.slices t ws };
 
-    ghost kept = { λ t ws. BoolsKept C.FromBytes.kept t ws };
+    ghost kept = { λ t ws. BoolsKept C.ReadForm.kept t ws };
 
+    ghost kept_prop = { λ t ws. BoolsKept-prop C.ReadForm.kept C.ReadForm.kept_prop t ws };
+}
+
+impl<C: FromBytes<Elem = u64> + Index<Item = u64>> FromBytes for Bools<C> {
     fn sized<S: Store>(image: &DecodedStore<S>, at: usize) -> Result<(), Fault> {
         C::sized(image, at)?;
         let last = at.saturating_add(C::slice_count());
@@ -56,16 +99,8 @@ impl<C: FromBytes<Elem = u64>> FromBytes for Bools<C> {
     fn form<S: Store>(image: &DecodedStore<S>, at: usize) -> Result<BoolsForm<C::Form>, Fault> {
         let values = C::form(image, at)?;
         let place = image.get(at.saturating_add(C::slice_count()))?;
-        let word = place.word(image.store(), 0)?;
-        let count = place.word(image.store(), 1)?;
-        let tail = match Tail::stored(word, count) {
-            Some(tail) => tail,
-            None => return Err(Fault::at(Refusal::SliceContent, at)),
-        };
-        let len = C::form_len(&values)
-            .saturating_mul(64)
-            .saturating_add(tail.count as usize);
-        if len > MAX_LEN {
+        let tail = tail_of(image.store(), place, at)?;
+        if count_of(C::form_len(&values), tail) > MAX_LEN {
             return Err(Fault::at(Refusal::SliceContent, at));
         }
         Ok(BoolsForm {
@@ -76,43 +111,33 @@ impl<C: FromBytes<Elem = u64>> FromBytes for Bools<C> {
     }
 
     fn form_len(form: &BoolsForm<C::Form>) -> usize {
-        C::form_len(&form.values)
-            .saturating_mul(64)
-            .saturating_add(form.tail.count as usize)
+        count_of(C::form_len(&form.values), form.tail)
     }
 
-    fn form_get<S: Store>(form: &BoolsForm<C::Form>, store: &S, i: usize) -> Result<bool, Fault> {
-        C::lawful();
-        let values: View<C, S> = View::new(&form.values, store);
-        Bools::over(values, form.tail).get(i)
+    fn view_get<S: Store>(view: &View<'_, '_, Bools<C>, S>, i: usize) -> Result<bool, Fault> {
+        bools_in(view).get(i)
     }
 
-    fn form_slice_len(form: &BoolsForm<C::Form>, k: usize) -> Result<usize, Fault> {
-        C::lawful();
-        let last = C::slice_count();
-        if k < last {
-            return C::form_slice_len(&form.values, k);
+    fn view_slice_len<S: Store>(
+        view: &View<'_, '_, Bools<C>, S>,
+        k: usize,
+    ) -> Result<usize, Fault> {
+        let bools = bools_in(view);
+        if is_below(k, bools.values.slices())? {
+            return bools.values.slice_len(k);
         }
-        if k > last || k >= MAX_WORDS {
-            return Err(Fault::at_start(Refusal::OutOfRange));
-        }
-        Ok(form.place.words().saturating_mul(8))
+        Ok(view.form.place.words() * 8)
     }
 
-    fn form_slice_word<S: Store>(
-        form: &BoolsForm<C::Form>,
-        store: &S,
+    fn view_slice_word<S: Store>(
+        view: &View<'_, '_, Bools<C>, S>,
         k: usize,
         i: usize,
     ) -> Result<u64, Fault> {
-        C::lawful();
-        let last = C::slice_count();
-        if k < last {
-            return C::form_slice_word(&form.values, store, k, i);
+        let bools = bools_in(view);
+        if is_below(k, bools.values.slices())? {
+            return bools.values.slice_word(k, i);
         }
-        if k > last || k >= MAX_WORDS {
-            return Err(Fault::at_start(Refusal::OutOfRange));
-        }
-        form.place.word(store, i)
+        view.form.place.word(view.store, i)
     }
 }

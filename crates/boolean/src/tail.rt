@@ -1,8 +1,9 @@
-// The tail that a column of bools keeps: the elements after the last full group, the first lowest. What a kept tail
-// keeps to is `TailKept`: a count of at most 63, and unused bits 0.
+// The tail that a column of bools keeps: the elements after the last full group, the first lowest.
 ghost use Rattle.std.specs.Prelude.{◌≡◌};
 ghost use Rattle.boolean.specs.Tail.{stored_tail};
 
+// What holds of a kept tail, at most 63 elements and unused bits 0, is said where it is kept: a column with a ghost field in
+// a part that holds no reference could be no side of a pair.
 #[derive(Clone, Copy)]
 pub struct Tail {
     pub(crate) word: u64,
@@ -10,6 +11,8 @@ pub struct Tail {
 }
 
 impl Tail {
+    pub(crate) const EMPTY: Tail = Tail { word: 0, count: 0 };
+
     // The tail that a stored word and count stand for, its unused bits dropped; none where the count is above 63.
     pub(crate) fn stored(word: u64, count: u64) -> Option<Tail>
         ensures { result ≡ stored_tail word count }

@@ -1,3 +1,2 @@
 pub mod PlayLemmas
-pub mod RecordLemmas
 pub mod RunsLemmas

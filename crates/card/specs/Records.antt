@@ -42,3 +42,8 @@ records_after (suc n) (k ∷ bs) = records_after n bs
 
 abbrev pub records : List ℕ → List (Option (Record Block))
 records = records_after 0
+
+-- what is answered to the records of an input one after the other, of which the first has number n
+abbrev pub answers : ℕ → List (Option (Record Block)) → List (Result (Record Block) Fault)
+answers n [] = []
+answers n (r ∷ rs) = record_answer r n ∷ answers (suc n) rs

@@ -1,11 +1,12 @@
 // The block table: ends as strides, bad marks as bools over a run of words, wear classes as a run of bytes.
 ghost use Rattle.std.specs.Prelude.{◌≡◌, [], length};
 ghost use Rattle.column.specs.Column.{cells as area_of, beside};
-ghost use Rattle.card.specs.Block.{BlockSound, block_list, block_areas};
+ghost use Rattle.card.specs.Block.{block_format, block_takes};
 ghost use Rattle.card.specs.Examples.{ExamplesHold};
 
 use boolean::bools::Bools;
-use column::kind::Column;
+use column::element::{Element, Value};
+use column::kind::{AsBytes, Column, Index, Kind};
 use column::run::Run;
 use offsets::strides::Strides;
 use tuple::pair::Pair;
@@ -18,9 +19,10 @@ pub fn block_table<'a>(
     bad: &'a mut [u64],
     wear: &'a mut [u8],
 ) -> BlockTable<'a>
-    ensures keeps { BlockSound result }
-    ensures after { block_list result ≡ [] }
-    ensures same { block_areas result ≡ beside (area_of (length ends.old)) (beside (area_of (length bad.old)) (area_of (length wear.old))) }
+    ensures after { ⟦<BlockTable<'a> as Index>⟧.list result ≡ [] }
+    ensures same { ⟦<BlockTable<'a> as Column>⟧.areas result ≡ beside (area_of (length ends.old)) (beside (area_of (length bad.old)) (area_of (length wear.old))) }
+    ensures format { ⟦<BlockTable<'a> as Kind>⟧.format ≡ block_format }
+    ensures takes { ⟦<BlockTable<'a> as Column>⟧.takes ≡ block_takes }
 {
     Pair::new(
         Strides::new(Run::new(ends)),
@@ -28,7 +30,7 @@ pub fn block_table<'a>(
     )
 }
 
-// Does nothing: its clause is that the definitions give the worked examples of the format.
+// Does nothing, so that a contract names the theorem: its clause is that the definitions give the worked examples of the format.
 pub fn examples_hold()
     ensures { ExamplesHold }
 {}

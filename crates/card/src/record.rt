@@ -1,6 +1,7 @@
 // Records: what the program `tables` reads, a kind byte and then a body of fixed length.
-ghost use Rattle.std.specs.Prelude.{◌≡◌, drop};
-ghost use Rattle.card.specs.Records.{record_of, record_answer, push_of, size_of};
+ghost use Rattle.std.specs.Prelude.{◌≡◌, ◌+◌, ◌^◌, ◌<◌, length};
+ghost use Rattle.std.specs.Iterator.{YieldsFirst, item_count};
+ghost use Rattle.card.specs.Records.{answers, push_of, record_of, records, size_of};
 
 use area::fault::{Fault, Refusal};
 use area::words::join;
@@ -16,60 +17,80 @@ pub enum Record<E> {
 // An element of a block table: the block's end, whether it is bad, and its wear class.
 pub type Block = (u64, (bool, u8));
 
-// The length of a record in bytes, the kind byte included.
-pub fn record_size(item: &Record<Block>) -> usize
-    ensures { result ≡ size_of item.now }
-{
-    match item {
-        Record::Push(_) => 11,
-        Record::Clear => 1,
-        Record::Image => 1,
+impl Record<Block> {
+    // The length in bytes, the kind byte included.
+    pub fn size(&self) -> usize
+        ensures { result ≡ size_of self.now }
+    {
+        match self {
+            Record::Push(_) => 11,
+            Record::Clear | Record::Image => 1,
+        }
     }
 }
 
-// The record that begins at place `at`; none where the kind is unknown, the body is cut off, or the bad byte is
-// neither 0 nor 1.
-fn next_record(input: &[u8], at: usize) -> Option<Record<Block>>
-    ensures { result ≡ record_of (drop at input.now) }
+// The record that bytes begin with; none where the kind is unknown, the body is cut off, or the bad byte is neither 0
+// nor 1.
+fn first_record(bytes: &[u8]) -> Option<Record<Block>>
+    ensures { result ≡ record_of bytes.now }
 {
-    if at >= input.len() {
-        return None;
-    }
-    let kind = input[at];
-    if kind == 1 {
-        push_record(input, at + 1)
-    } else if kind == 2 {
-        Some(Record::Clear)
-    } else if kind == 3 {
-        Some(Record::Image)
-    } else {
-        None
+    match bytes {
+        [1, body @ ..] => push_record(body),
+        [2, ..] => Some(Record::Clear),
+        [3, ..] => Some(Record::Image),
+        _ => None,
     }
 }
 
-// The same as an answer: 17 carries which record of the input this is.
-pub fn read_record(input: &[u8], at: usize, count: usize) -> Result<Record<Block>, Fault>
-    ensures { result ≡ record_answer (record_of (drop at input.now)) count }
+// The push that a body begins with: eight bytes of end, the bad byte and the wear byte.
+fn push_record(body: &[u8]) -> Option<Record<Block>>
+    ensures { result ≡ push_of body.now }
 {
-    match next_record(input, at) {
-        Some(record) => Ok(record),
-        None => Err(Fault::at(Refusal::UnknownRecord, count)),
-    }
-}
-
-// The push whose body begins at place `at`.
-fn push_record(input: &[u8], at: usize) -> Option<Record<Block>>
-    ensures { result ≡ push_of (drop at input.now) }
-{
-    if input.len() < 10 || at > input.len() - 10 {
-        return None;
-    }
-    let bad = input[at + 8];
+    let end = join(body, 0)?;
+    let [bad, wear] = *body.get(8..)?.first_chunk::<2>()?;
     if bad > 1 {
         return None;
     }
-    match join(input, at) {
-        Some(end) => Some(Record::Push((end, (bad == 1, input[at + 9])))),
-        None => None,
+    Some(Record::Push((end, (bad == 1, wear))))
+}
+
+// The records of an input, one after the other. What is no record is refused with 17, which carries the number of the
+// record, and ends the reading.
+#[derive(Drop)]
+pub struct Records<'a> {
+    rest: &'a [u8],
+    read: usize,
+    ghost counted: { read + length rest.now < 2 ^ 64 },
+}
+
+impl<'a> Records<'a> {
+    pub fn new(input: &'a [u8]) -> Records<'a>
+        ensures { (result.rest.now ≡ input.now) × (result.read ≡ 0) }
+    {
+        Records {
+            rest: input,
+            read: 0,
+        }
+    }
+}
+
+impl<'a> Iterator for Records<'a> {
+    type Item = Result<Record<Block>, Fault>;
+
+    ghost next_gives = { YieldsFirst (λ s. answers s.read (records s.rest.now)) };
+
+    ghost remaining = { item_count (λ s. answers s.read (records s.rest.now)) };
+
+    fn next(&mut self) -> Option<Result<Record<Block>, Fault>> {
+        if self.rest.is_empty() {
+            return None;
+        }
+        let Some(record) = first_record(self.rest) else {
+            self.rest = &[];
+            return Some(Err(Fault::at(Refusal::UnknownRecord, self.read)));
+        };
+        self.rest = &self.rest[record.size()..];
+        self.read += 1;
+        Some(Ok(record))
     }
 }

@@ -1,5 +1,5 @@
 -- How far an append has come: the elements that it has put after a list, and whether the next one is taken.
-use Rattle.std.proofs.Common.{◌≡◌, ℕ, zero, suc, ◌+◌, ◌-◌, ◌<◌, ◌≤◌, min, Bool, true, false, cond, not, List, [], ◌∷◌, ◌++◌, length, get_or, take, drop, is_err as is_refusal, Ok, Err, Result, sym, refl, ap, ◌∙◌, append_assoc, append-nil, add-sub_of_le, zero-add, arith}
+use Rattle.std.proofs.Common.{◌≡◌, ℕ, zero, suc, ◌+◌, ◌-◌, ◌<◌, ◌≤◌, min, Bool, true, false, cond, not, List, [], ◌∷◌, ◌++◌, length, take, drop, is_err as is_refusal, Ok, Err, Result, sym, refl, ap, ◌∙◌, append_assoc, append-nil, add-sub_of_le, zero-add, arith}
 use native.Mathlib.Nat.{sub_self}
 use Rattle.std.specs.List.{between}
 use Rattle.std.proofs.lemmas.List.Edits.{length-between}
@@ -8,20 +8,10 @@ use Rattle.std.proofs.lemmas.Bool.{cond_both, eq-eqb, le-leb, ne_eqb, not-false,
 use Rattle.area.specs.Fault.{refuse}
 use Rattle.area.specs.declared.fault.Fault.{Fault}
 use Rattle.area.specs.declared.fault.Refusal.TheVariants.{NotTaken}
+use Rattle.column.proofs.ColumnLemmas.{element_found}
 use Rattle.column.specs.Column.{Areas, element, push_answer, pushed, taken, range_answer, range_appended}
 
 module _ {E : Type 0} where
-  -- an element that is there, and one that is not
-  element_there : (xs : List E) (i : ℕ) (x : E) → element xs i ≡ Ok x → (i < length xs) × (get_or xs i x ≡ x)
-  element_there [] i x h = let z : ◌≡◌ {A = ℕ} 0 1 = cc in absurd (omega arith)
-  element_there (y ∷ xs) zero x h = (omega arith, cc)
-  element_there (y ∷ xs) (suc i) x h = let p = element_there xs i x h in (omega arith, p.1)
-
-  pub element_absent : (xs : List E) (i : ℕ) (e : Fault) → element xs i ≡ Err e → length xs ≤ i
-  element_absent [] i e h = omega arith
-  element_absent (x ∷ xs) zero e h = let z : ◌≡◌ {A = ℕ} 0 1 = cc in absurd (omega arith)
-  element_absent (x ∷ xs) (suc i) e h = omega (arith, element_absent xs i e h)
-
   element-take : (n : ℕ) (xs : List E) (i : ℕ) → i < n → element (take n xs) i ≡ element xs i
   element-take zero xs i h = absurd (omega arith)
   element-take (suc n) [] i h = refl
@@ -60,7 +50,7 @@ module _ {E : Type 0} (t : List E → E → Bool) where
 
   taken_next : (xs ys : List E) (n : ℕ) (y : E) → element ys n ≡ Ok y → n ≤ taken t xs ys → taken t xs ys ≡ n + cond (t (xs ++ take n ys) y) (suc (taken t ((xs ++ take n ys) ++ y ∷ []) (drop (n + 1) ys))) 0
   taken_next xs ys n y e h =
-      let q = element_there ys n y e in
+      let q = element_found ys n y y (sym e) in
       taken-rest xs ys n h ∙ rw (drop_more ys n y q.0, q.1)
 
 -- The list zs is xs with the elements at places a to i - 1 of a source put after it, each of them taken. No place is
@@ -88,7 +78,7 @@ module _ {E : Type 0} (f : Areas → List E → E → Bool) (A : Areas) (xs src 
       added_more k =
           let w : f A zs y ≡ true = not-false (f A zs y) (sym answered ∙ k) in
           let d : i + 1 - a ≡ i - a + 1 = omega arith in
-          let o = element_there (between a b src) (i - a) y there in
+          let o = element_found (between a b src) (i - a) y y (sym there) in
           rw d (
             rw (take_more (between a b src) (i - a) y o.0, o.1, ← append_assoc, ← p.0) (u ∙ rw (s, w)),
             omega (arith, rw w at next),
@@ -98,7 +88,7 @@ module _ {E : Type 0} (f : Areas → List E → E → Bool) (A : Areas) (xs src 
       added_stopped k =
           let w : f A zs y ≡ false = not-true (f A zs y) (sym answered ∙ k) in
           let n : taken (f A) xs (between a b src) ≡ i - a = omega (arith, rw w at next) in
-          let o = element_there (between a b src) (i - a) y there in
+          let o = element_found (between a b src) (i - a) y y (sym there) in
           rw (le-leb b (length src) l, n) (
             rw (ne_eqb (i - a) (length (between a b src)) (λ g. omega (arith, o.0))),
             u ∙ rw (s, w) p.0,

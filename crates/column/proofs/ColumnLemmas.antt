@@ -1,10 +1,10 @@
 -- What a column answers at a place, and what a push leaves.
 use Rattle.std.proofs.Common.{◌≡◌, ℕ, zero, suc, ◌<◌, ◌≤◌, Bool, true, List, [], ◌∷◌, ◌++◌, length, get_or, Ok, Err, refl, arith}
+use Rattle.std.specs.List.{list_all}
 use Rattle.std.proofs.lemmas.Bool.{and_from, and_parts}
 use Rattle.area.specs.Fault.{refuse}
 use Rattle.area.specs.declared.fault.Refusal.TheVariants.{OutOfRange}
 use Rattle.column.specs.Column.{element}
-use Rattle.column.specs.Kind.{every}
 
 pub element_at_lem : {E : Type 0} (xs : List E) (i : ℕ) (d : E) → i < length xs → element xs i ≡ Ok (get_or xs i d)
 element_at_lem [] i d h = absurd (omega arith)
@@ -22,6 +22,6 @@ element_found [] i x d e = let z : ◌≡◌ {A = ℕ} 0 1 = cc in absurd (omega
 element_found (y ∷ xs) zero x d e = (omega arith, cc)
 element_found (y ∷ xs) (suc i) x d e = let r = element_found xs i x d e in (omega arith, r.1)
 
-pub every_append : {E : Type 0} (p : E → Bool) (xs ys : List E) → every p xs ≡ true → every p ys ≡ true → every p (xs ++ ys) ≡ true
-every_append p [] ys h k = k
-every_append p (x ∷ xs) ys h k = let q = and_parts (p x) (every p xs) h in and_from (p x) (every p (xs ++ ys)) q.0 (every_append p xs ys q.1 k)
+pub list_all_append : {E : Type 0} (p : E → Bool) (xs ys : List E) → list_all p xs ≡ true → list_all p ys ≡ true → list_all p (xs ++ ys) ≡ true
+list_all_append p [] ys h k = k
+list_all_append p (x ∷ xs) ys h k = let q = and_parts (p x) (list_all p xs) h in and_from (p x) (list_all p (xs ++ ys)) q.0 (list_all_append p xs ys q.1 k)

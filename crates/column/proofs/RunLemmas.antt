@@ -1,24 +1,21 @@
 -- A run's cells: what a read, a write and a test of room say of its list. Its bytes, its words and its one slice.
-use Rattle.std.proofs.Common.{◌≡◌, ℕ, zero, suc, ◌+◌, ◌-◌, ◌*◌, ◌/◌, ◌%◌, ◌^◌, ◌<◌, ◌≤◌, min, Bool, true, false, cond, ltb, leb, ◌⊎◌, List, [], ◌∷◌, ◌++◌, length, get_or, take, drop, set, Ok, Err, sym, refl, ap, ◌∙◌, ⊎_elim, mod-lt, mod-eq_of_lt, mul_comm, mul-le-mul_left, arith, lit<, length-drop, length-take}
-use native.Mathlib.Nat.{mul-div-le, div-add-mod, pow-le-pow_right}
-use Rattle.std.specs.List.{flat_map, AllByRecursion}
-use Rattle.std.proofs.ByRecursion.{All-drop, All-take}
-use Rattle.std.proofs.lemmas.List.{drop_all, get_or-drop, get_or-map, get_or_past, get_or-take, take_more_set}
-use Rattle.std.proofs.lemmas.Bool.{and_from, cases_lt, le-leb, le-ltb, leb-true, lt-leb, lt-ltb}
+use Rattle.std.proofs.Common.{◌≡◌, ℕ, zero, suc, ◌-◌, ◌*◌, ◌/◌, ◌%◌, ◌^◌, ◌<◌, ◌≤◌, min, Bool, true, false, cond, leb, ◌⊎◌, List, [], ◌∷◌, length, get_or, take, drop, Ok, Err, sym, refl, ap, ◌∙◌, ⊎_elim, mod-lt, mul_comm, mul-le-mul_left, arith, length-take}
+use native.Mathlib.Nat.{mul-div-le, div-add-mod}
+use Rattle.std.specs.List.{flat_map, AllByRecursion, list_all}
+use Rattle.std.proofs.lemmas.List.{get_or-map, get_or_past, get_or-take}
+use Rattle.std.proofs.lemmas.Bool.{cases_lt, le-leb, le-ltb, leb-true, lt-leb}
 use Rattle.area.specs.Digits.{number, chunks}
 use Rattle.area.specs.Fault.{refuse}
 use Rattle.area.specs.Slice.{Slice, of_bytes, pack, words_for}
 use Rattle.area.specs.declared.fault.Fault.{Fault}
 use Rattle.area.specs.declared.fault.Refusal.TheVariants.{ImageTooLong, OutOfRange}
-use Rattle.area.proofs.DigitLemmas.{get_or-chunks, get_or_joined, length-chunks, number-drop, number_lt}
+use Rattle.area.proofs.DigitLemmas.{get_or-chunks, get_or_joined, length-chunks}
 use Rattle.area.proofs.SliceLemmas.{length-pack}
 use Rattle.column.specs.Column.{element, slice_length, word_in_slice}
-use Rattle.column.specs.Element.{Bytes, Codec, OneToOne}
-use Rattle.column.specs.Kind.{CAP, L, every}
-use Rattle.column.specs.Run.{RunSound, run_list}
-use Rattle.column.specs.declared.run.Run.{Run}
-use Rattle.column.proofs.ColumnLemmas.{element_at_lem, element_past, every_append}
-use Rattle.column.specs.RunLaws.{length_strings, sizes, strings}
+use Rattle.column.specs.Element.{Codec, OneToOne}
+use Rattle.column.specs.Kind.{CAP}
+use Rattle.column.proofs.ColumnLemmas.{element_at_lem, element_past}
+use Rattle.column.specs.RunLaws.{length_strings, sizes}
 
 module _ {E : Type 0} (cells : List E) (n : ℕ) (within : n ≤ length cells) where
   pub read_at : (i : ℕ) (x : E) → i < n → x ≡ get_or cells i x → Ok x ≡ element (take n cells) i
@@ -29,17 +26,6 @@ module _ {E : Type 0} (cells : List E) (n : ℕ) (within : n ≤ length cells) w
   pub read_past : (i : ℕ) → n ≤ i → element (take n cells) i ≡ Err (refuse OutOfRange 0)
   read_past i h = element_past (take n cells) i (simp length-take (omega arith))
 
-  -- whether there is a free cell
-  pub free : n < length cells → n < L → ltb (length (take n cells)) (min (length cells) L) ≡ true
-  free h k = lt-ltb _ _ (simp length-take (omega arith))
-
-  -- a write to the first free cell puts the element at the end
-  pub write_after : (x y : E) → n < length cells → y ≡ x → take (n + 1) (set cells n y) ≡ take n cells ++ x ∷ []
-  write_after x y h e = take_more_set cells n y h ∙ ap (λ z. take n cells ++ z ∷ []) e
-
-  pub write_fits : (p : E → Bool) (x y : E) → n < length cells → y ≡ x → p x ≡ true → every p (take n cells) ≡ true → every p (take (n + 1) (set cells n y)) ≡ true
-  write_fits p x y h e f k = ap (every p) (write_after x y h e) ∙ every_append p (take n cells) (x ∷ []) k (and_from (p x) true f refl)
-
 -- no element at a place is past the end
 pub past_from_err : {E : Type 0} (xs : List E) (i : ℕ) (f : Fault) → Err f ≡ element xs i → length xs ≤ i
 past_from_err [] i f e = omega arith
@@ -47,7 +33,7 @@ past_from_err (x ∷ xs) zero f e = let z : ◌≡◌ {A = ℕ} 0 1 = cc in absu
 past_from_err (x ∷ xs) (suc i) f e = omega (arith, past_from_err xs i f e)
 
 -- byte p of elements of n bytes is byte p % n of element p / n
-module _ {E : Type 0} (fits : E → Bool) (C : Codec E) (O : OneToOne fits C) (xs : List E) (h : every fits xs ≡ true) (p n : ℕ) (size : n ≡ C.size) where
+module _ {E : Type 0} (fits : E → Bool) (C : Codec E) (O : OneToOne fits C) (xs : List E) (h : list_all fits xs ≡ true) (p n : ℕ) (size : n ≡ C.size) where
   pub byte_in : (x : E) → Ok x ≡ element xs (p / n) → get_or (C.bytes x) (p % n) 0 ≡ get_or (flat_map C.bytes xs) p 0
   byte_in x e = ⊎_elim inside past (cases_lt (p / n) (length xs))
     where
@@ -90,42 +76,23 @@ module _ (s : Slice) where
       (q.0, omega (arith, q.0, leb-true s.bytes (8 * CAP) q.1), rw (q.1, word_in_slice))
   one_word_of (suc k) n i e = let z : ◌≡◌ {A = ℕ} 0 1 = cc (le-ltb (suc k) 1 (omega arith)) in absurd (omega arith)
 
--- a run's bytes
-module _ {E : Type 0} (fits : E → Bool) (C : Codec E) (O : OneToOne fits C) (c : Run E) (s : RunSound fits c) where
-  pub run_strings : Bytes (flat_map C.bytes (run_list c))
-  run_strings = strings fits C O (run_list c) s.fitting
-
-  run_length : length (flat_map C.bytes (run_list c)) ≡ c.len * C.size
+-- a run's bytes: the list is the first m cells
+module _ {E : Type 0} (fits : E → Bool) (C : Codec E) (O : OneToOne fits C) (cells : List E) (m : ℕ) (within : m ≤ length cells) (fitting : list_all fits (take m cells) ≡ true) where
+  run_length : length (flat_map C.bytes (take m cells)) ≡ m * C.size
   run_length =
-      let l : length (run_list c) ≡ c.len = simp length-take (omega (arith, s.within)) in
-      length_strings fits C O (run_list c) s.fitting ∙ ap (λ n. C.size * n) l ∙ mul_comm C.size c.len
+      let l : length (take m cells) ≡ m = simp length-take (omega (arith, within)) in
+      length_strings fits C O (take m cells) fitting ∙ ap (λ n. C.size * n) l ∙ mul_comm C.size m
 
   -- the length of its slice, from a product that stops at the largest word
-  module _ (k n r : ℕ) (first : k ≤ 0) (size : n ≡ C.size) (product : r ≡ min (c.len * n) (2 ^ 64 - 1)) where
-    pub run_slice : r ≤ 8 * CAP → Ok r ≡ slice_length (of_bytes (flat_map C.bytes (run_list c)) ∷ []) k
+  module _ (k n r : ℕ) (first : k ≤ 0) (size : n ≡ C.size) (product : r ≡ min (m * n) (2 ^ 64 - 1)) where
+    pub run_slice : r ≤ 8 * CAP → Ok r ≡ slice_length (of_bytes (flat_map C.bytes (take m cells)) ∷ []) k
     run_slice h =
-        let e : r ≡ length (flat_map C.bytes (run_list c)) = omega (arith, run_length, ap (λ m. c.len * m) size) in
-        ap Ok e ∙ sym (one_length (of_bytes (flat_map C.bytes (run_list c))) k first (omega arith))
+        let e : r ≡ length (flat_map C.bytes (take m cells)) = omega (arith, run_length, ap (λ q. m * q) size) in
+        ap Ok e ∙ sym (one_length (of_bytes (flat_map C.bytes (take m cells))) k first (omega arith))
 
-    pub run_too_long : (f : Fault) → 8 * CAP < r → f ≡ refuse ImageTooLong 0 → Err f ≡ slice_length (of_bytes (flat_map C.bytes (run_list c)) ∷ []) k
+    pub run_too_long : (f : Fault) → 8 * CAP < r → f ≡ refuse ImageTooLong 0 → Err f ≡ slice_length (of_bytes (flat_map C.bytes (take m cells)) ∷ []) k
     run_too_long f h e =
-        ap Err e ∙ sym (one_too_long (of_bytes (flat_map C.bytes (run_list c))) k first (omega (arith, run_length, ap (λ m. c.len * m) size)))
-
--- a word from its bytes, the highest first: the remainder by 2^56 loses nothing
-module _ (bs : List ℕ) (i : ℕ) where
-  pub word_none : 0 ≡ number 256 (drop 8 (take 8 (drop (8 * i) bs)))
-  word_none = rw (drop_all 8 (take 8 (drop (8 * i) bs)) (simp length-take (omega arith)))
-
-  pub word_more : (j w b : ℕ) → Bytes bs → 0 < j → j ≤ 8 → w ≡ number 256 (drop j (take 8 (drop (8 * i) bs))) → b ≡ get_or bs (8 * i + (j - 1)) 0 → w % 2 ^ 56 * 256 + b ≡ number 256 (drop (j - 1) (take 8 (drop (8 * i) bs)))
-  word_more j w b h p l e f =
-      let ds : List ℕ = take 8 (drop (8 * i) bs) in
-      let m : suc (j - 1) ≡ j = omega arith in
-      let step : number 256 (drop (j - 1) ds) ≡ get_or ds (j - 1) 0 + 256 * number 256 (drop j ds) = rw m at (number-drop 256 (j - 1) ds) in
-      let here : get_or ds (j - 1) 0 ≡ b = get_or-take 8 (drop (8 * i) bs) (j - 1) 0 (omega arith) ∙ get_or-drop (8 * i) bs (j - 1) 0 ∙ sym f in
-      let under : number 256 (drop j ds) < 256 ^ length (drop j ds) = number_lt 256 (drop j ds) (All-drop (λ d. d < 256) j ds (All-take (λ d. d < 256) 8 (drop (8 * i) bs) (All-drop (λ d. d < 256) (8 * i) bs h))) in
-      let few : length (drop j ds) ≤ 7 = simp (length-drop, length-take) (omega arith) in
-      let small : w < 2 ^ 56 = omega (arith, pow-le-pow_right {n = 256} (lit< tt) few) in
-      rw (mod-eq_of_lt small) (omega arith)
+        ap Err e ∙ sym (one_too_long (of_bytes (flat_map C.bytes (take m cells))) k first (omega (arith, run_length, ap (λ q. m * q) size)))
 
 -- word i of the slice of bytes, of which n count
 module _ (bs : List ℕ) (k n i : ℕ) (e : Ok n ≡ slice_length (of_bytes bs ∷ []) k) where

@@ -1,6 +1,6 @@
 -- Kinds: how a list of elements is written as slices, how slices are read, and the laws that join the two.
-use Rattle.std.specs.Prelude.{◌≡◌, ℕ, ◌+◌, ◌≤◌, Bool, true, cond, ◌&&◌, List, [], ◌∷◌, length, Some, None, Option, nat_le, slice_index, slice_index_or}
-use Rattle.std.specs.List.{AllByRecursion}
+use Rattle.std.specs.Prelude.{◌≡◌, ℕ, ◌+◌, ◌≤◌, Bool, true, cond, List, [], length, Some, None, Option, nat_le, slice_index, slice_index_or}
+use Rattle.std.specs.List.{AllByRecursion, list_all}
 use Rattle.area.specs.Slice.{Slice, WellFormed, ZeroPadded, weight}
 
 -- no list has more elements
@@ -26,13 +26,9 @@ pub record Format (E : Type 0) : Type 0 where
   pub reading : List Slice → Reading E
   pub giving : List Slice → List Slice
 
-abbrev pub every : {E : Type 0} → (E → Bool) → List E → Bool
-every p [] = true
-every p (x ∷ xs) = p x && every p xs
-
 -- a list that a kind writes: each element fits its type, and there are at most L
 abbrev pub Held : {E : Type 0} → (E → Bool) → List E → Type 0
-Held fits xs = (every fits xs ≡ true) × (length xs ≤ L)
+Held fits xs = (list_all fits xs ≡ true) × (length xs ≤ L)
 
 -- slices of the kind's number that are accepted and read as xs
 pub record Accepted {E : Type 0} (F : Format E) (ss : List Slice) (xs : List E) : Type 0 where

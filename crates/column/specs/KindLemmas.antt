@@ -1,21 +1,21 @@
 -- What tests, refusals and readings say, for the laws of every kind.
 use Rattle.std.specs.Prelude.{◌≡◌, ℕ, ◌<◌, ◌≤◌, Bool, true, false, cond, List, [], ◌∷◌, length, Some, None, Option, refl}
 use Rattle.std.proofs.Common.{arith}
-use Rattle.std.specs.List.{AllByRecursion}
+use Rattle.std.specs.List.{AllByRecursion, list_all}
 use Rattle.std.proofs.ByRecursion.{All-get_or}
 use Rattle.std.proofs.lemmas.Bool.{and_from, and_parts, leb-true}
 use Rattle.area.specs.Slice.{Slice, WellFormed}
-use Rattle.column.specs.Kind.{Reading, reads, refuses, every, slot, least_words, first_refused, further, after, reading_within}
+use Rattle.column.specs.Kind.{Reading, reads, refuses, slot, least_words, first_refused, further, after, reading_within}
 
 -- `every` as `AllByRecursion`, and back
 module _ {E : Type 0} (p : E → Bool) where
-  pub all_from_every : (xs : List E) → every p xs ≡ true → AllByRecursion (λ x. p x ≡ true) xs
-  all_from_every [] h = tt
-  all_from_every (x ∷ xs) h = let q = and_parts (p x) (every p xs) h in (q.0, all_from_every xs q.1)
+  pub all_from_list_all : (xs : List E) → list_all p xs ≡ true → AllByRecursion (λ x. p x ≡ true) xs
+  all_from_list_all [] h = tt
+  all_from_list_all (x ∷ xs) h = let q = and_parts (p x) (list_all p xs) h in (q.0, all_from_list_all xs q.1)
 
-  pub every_from_all : (xs : List E) → AllByRecursion (λ x. p x ≡ true) xs → every p xs ≡ true
-  every_from_all [] h = refl
-  every_from_all (x ∷ xs) h = and_from (p x) (every p xs) h.0 (every_from_all xs h.1)
+  pub list_all_from_all : (xs : List E) → AllByRecursion (λ x. p x ≡ true) xs → list_all p xs ≡ true
+  list_all_from_all [] h = refl
+  list_all_from_all (x ∷ xs) h = and_from (p x) (list_all p xs) h.0 (list_all_from_all xs h.1)
 
 -- a slice of well-formed ones
 pub slot-formed : (ss : List Slice) (k : ℕ) → k < length ss → AllByRecursion WellFormed ss → WellFormed (slot ss k)

@@ -1,12 +1,11 @@
 -- A run: one slice, the elements in order.
-use Rattle.std.specs.Prelude.{◌≡◌, ℕ, ◌/◌, ◌%◌, ◌≤◌, min, Bool, true, false, cond, List, [], ◌∷◌, map, length, take, Some, None, ◌==◌, nat_le, nat_lt}
+use Rattle.std.specs.Prelude.{ℕ, ◌/◌, ◌%◌, min, Bool, false, cond, List, [], ◌∷◌, map, length, Some, None, ◌==◌, nat_le, nat_lt}
 use Rattle.std.specs.List.{flat_map}
 use Rattle.area.specs.Digits.{chunks}
 use Rattle.area.specs.Slice.{Slice, of_bytes, contents}
-use Rattle.column.specs.declared.run.Run.{Run}
 use Rattle.column.specs.Column.{Areas, none, cells, beside}
 use Rattle.column.specs.Element.{Codec, unsigned}
-use Rattle.column.specs.Kind.{Format, L, every, slot, reading_within}
+use Rattle.column.specs.Kind.{Format, L, slot, reading_within}
 
 -- the elements that a slice's bytes hold
 abbrev pub elements : {E : Type 0} → Codec E → Slice → List E
@@ -30,12 +29,3 @@ abbrev pub run_takes : {E : Type 0} → Areas → List E → E → Bool
 run_takes none xs x = false
 run_takes (cells n) xs x = nat_lt (length xs) (min n L)
 run_takes (beside a b) xs x = false
-
--- a run's list: the first cells of its area
-abbrev pub run_list : {E : Type 0} → Run E → List E
-run_list c = take c.len c.cells.now
-
-pub record RunSound {E : Type 0} (fits : E → Bool) (c : Run E) : Type 0 where
-  pub within : c.len ≤ length c.cells.now
-  pub short : c.len ≤ L
-  pub fitting : every fits (run_list c) ≡ true

@@ -1,7 +1,6 @@
 // The one append, for every column and whatever answers a list of its elements.
 ghost use Rattle.std.specs.Prelude.{◌≡◌, true, cond, List, length};
-ghost use Rattle.std.specs.List.{between};
-ghost use Rattle.column.specs.Kind.{every};
+ghost use Rattle.std.specs.List.{between, list_all};
 ghost use Rattle.column.specs.Column.{range_answer, range_appended};
 
 use crate::kind::{Column, Index};
@@ -15,10 +14,9 @@ pub fn append<C: Column, R: Index<Item = C::Elem>>(
     a: usize,
     b: usize,
 ) -> Result<(), Fault>
-    ensures keeps { C.Index.sound dst.old → C.Index.sound dst.new }
-    ensures answer { C.Index.sound dst.old → R.Index.sound src.now → result ≡ range_answer (C.Column.takes (C.Column.areas dst.old)) (C.Index.list dst.old) (R.Index.list src.now) a b }
-    ensures after { C.Index.sound dst.old → R.Index.sound src.now → C.Index.list dst.new ≡ range_appended (C.Column.takes (C.Column.areas dst.old)) (C.Index.list dst.old) (R.Index.list src.now) a b }
-    ensures same { C.Index.sound dst.old → C.Column.areas dst.new ≡ C.Column.areas dst.old }
+    ensures answer { result ≡ range_answer (C.Column.takes (C.Column.areas dst.old)) (C.Index.list dst.old) (R.Index.list src.now) a b }
+    ensures after { C.Index.list dst.new ≡ range_appended (C.Column.takes (C.Column.areas dst.old)) (C.Index.list dst.old) (R.Index.list src.now) a b }
+    ensures same { C.Column.areas dst.new ≡ C.Column.areas dst.old }
 {
     if b > src.len() {
         return Err(Fault::at_start(Refusal::OutOfRange));

@@ -14,6 +14,7 @@ pub trait Value: Copy {
         ensures within { fits self ≡ true };
 }
 
+// An impl a type, here and below: the library has no trait over the unsigned numbers that has their bits.
 impl Value for u64 {
     ghost fits = { λ x. nat_lt x (2 ^ 64) };
 
@@ -79,10 +80,7 @@ impl Element for u64 {
     }
 
     fn byte(self, j: usize) -> u8 {
-        if j >= 8 {
-            return 0;
-        }
-        ((self >> (8 * j)) & 0xff) as u8
+        self.to_le_bytes().get(j).copied().unwrap_or(0)
     }
 }
 
@@ -96,9 +94,6 @@ impl Element for u8 {
     }
 
     fn byte(self, j: usize) -> u8 {
-        if j >= 1 {
-            return 0;
-        }
-        self
+        if j == 0 { self } else { 0 }
     }
 }

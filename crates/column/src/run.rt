@@ -1,27 +1,30 @@
 // A run: elements side by side in a lent area, one text for every element type.
-ghost use Rattle.std.specs.Prelude.{◌≡◌, ℕ, ◌*◌, ◌<◌, ◌≤◌, true, List, [], length, take, drop, ◌==◌, slice_index};
+ghost use Rattle.std.specs.Prelude.{◌≡◌, ℕ, ◌*◌, ◌<◌, ◌≤◌, true, List, [], length, take, drop, ◌==◌, slice_index, refl};
 ghost use Rattle.area.specs.Digits.{number};
-ghost use Rattle.std.specs.List.{flat_map};
-ghost use Rattle.column.specs.Kind.{L, CAP, every};
+ghost use Rattle.std.specs.List.{flat_map, list_all};
+ghost use Rattle.column.specs.Kind.{L, CAP};
 ghost use Rattle.column.specs.Column.{cells as area_of};
-ghost use Rattle.column.specs.Run.{run_format, run_takes, run_list, RunSound};
+ghost use Rattle.column.specs.Run.{run_format, run_takes};
+ghost use Rattle.column.specs.RunLaws.{run_held, run_laws};
 
 use crate::element::{Element, Value};
 use crate::kind::{AsBytes, Column, Index, Kind, MAX_LEN, MAX_WORDS};
 use area::fault::{Fault, Refusal};
 
-// The list is the first `len` cells.
+// The list is the first `len` cells of an area that is lent: the firmware has no heap.
 #[derive(Drop)]
 pub struct Run<'a, T: Value> {
     cells: &'a mut [T],
     len: usize,
+    ghost within: { len ≤ length cells.now },
+    ghost short: { len ≤ L },
+    ghost fitting: { list_all T.Value.fits (take len cells.now) ≡ true },
 }
 
 impl<'a, T: Element> Run<'a, T> {
     // An empty run over an area.
     pub fn new(cells: &'a mut [T]) -> Run<'a, T>
-        ensures keeps { RunSound T.Value.fits result }
-        ensures after { run_list result ≡ [] }
+        ensures after { take result.len result.cells.now ≡ [] }
         ensures same { result.cells.now ≡ cells.old }
     {
         Run { cells, len: 0 }
@@ -37,34 +40,29 @@ impl<'a, T: Element> Run<'a, T> {
 impl<'a, T: Element> Index for Run<'a, T> {
     type Item = T;
 
-    ghost sound = { λ c. RunSound T.Value.fits c };
-
-    ghost list = { λ c. run_list c };
+    ghost list = { λ c. take c.len c.cells.now };
 
     fn len(&self) -> usize {
         self.len
     }
 
     fn get(&self, i: usize) -> Result<T, Fault> {
-        let cells: &[T] = self.cells;
-        if i >= self.len || i >= cells.len() {
+        if i >= self.len {
             return Err(Fault::at_start(Refusal::OutOfRange));
         }
-        Ok(cells[i])
+        Ok(self.cells[i])
     }
 }
 
 impl<'a, T: Element> Run<'a, T> {
     // Byte `p` of the elements in order, 0 past their end.
     fn byte_at(&self, p: usize) -> u8
-        ensures { RunSound T.Value.fits self.now → result ≡ slice_index (flat_map T.Element.codec.bytes (run_list self.now)) p }
+        ensures { result ≡ slice_index (flat_map T.Element.codec.bytes (take self.now.len self.now.cells.now)) p }
     {
         let size = T::size();
-        if size == 0 {
-            return 0;
-        }
         match self.get(p / size) {
             Ok(x) => x.byte(p % size),
+            // past the elements
             Err(_) => 0,
         }
     }
@@ -72,18 +70,14 @@ impl<'a, T: Element> Run<'a, T> {
     // The eight bytes from place 8 × `i` on as a word, the lowest first.
     fn word_at(&self, i: usize) -> u64
         requires { i < CAP }
-        ensures { RunSound T.Value.fits self.now → result ≡ number 256 (take 8 (drop (8 * i) (flat_map T.Element.codec.bytes (run_list self.now)))) }
+        ensures { result ≡ number 256 (take 8 (drop (8 * i) (flat_map T.Element.codec.bytes (take self.now.len self.now.cells.now)))) }
     {
-        let mut word: u64 = 0;
-        for j in (0..8).rev() {
-            word = word % 0x0100_0000_0000_0000 * 256 + u64::from(self.byte_at(8 * i + j));
-        }
-        word
+        u64::from_le_bytes(std::array::from_fn(|j: usize| self.byte_at(8 * i + j)))
     }
 }
 
 impl<'a, T: Element> AsBytes for Run<'a, T> {
-    ghost slices = { λ c. (run_format T.Element.codec).writing (run_list c) };
+    ghost slices = { λ c. (run_format T.Element.codec).writing (take c.len c.cells.now) };
 
     fn slices(&self) -> usize {
         1
@@ -114,11 +108,11 @@ impl<'a, T: Element> Kind for Run<'a, T> {
 
     ghost format = { run_format T.Element.codec };
 
+    ghost laws = { run_laws T.Value.fits T.Element.codec T.Element.one_to_one };
+
     fn slice_count() -> usize {
         1
     }
-
-    fn lawful() {}
 }
 
 impl<'a, T: Element> Column for Run<'a, T> {
@@ -126,7 +120,9 @@ impl<'a, T: Element> Column for Run<'a, T> {
 
     ghost takes = { run_takes };
 
-    fn upholds(&self) {}
+    ghost held = { λ c. run_held T.Value.fits c.len c.cells.now c.short c.fitting };
+
+    ghost written = { λ _. refl };
 
     fn takes(&self, _x: T) -> bool {
         self.len < self.cells.len() && self.len < MAX_LEN
@@ -134,12 +130,11 @@ impl<'a, T: Element> Column for Run<'a, T> {
 
     fn push(&mut self, x: T) -> Result<(), Fault> {
         let x = x.known();
-        if self.len >= self.cells.len() || self.len >= MAX_LEN {
+        if !self.takes(x) {
             return Err(Fault::at_start(Refusal::NotTaken));
         }
-        let at = self.len;
-        self.cells[at] = x;
-        self.len = at + 1;
+        self.cells[self.len] = x;
+        self.len += 1;
         Ok(())
     }
 

@@ -1,5 +1,5 @@
 -- The slices of a byte area are parts of it.
-use Rattle.std.proofs.Common.{◌≡◌, ℕ, zero, suc, ◌+◌, ◌-◌, ◌*◌, ◌/◌, ◌%◌, ◌<◌, ◌≤◌, eqb, leb, List, [], ◌∷◌, length, take, drop, None, Ok, Err, sym, refl, ap, ◌∙◌, ⊎_elim, append-nil, add_comm, mul-suc, arith, lit<, take-take, drop-drop, take-add}
+use Rattle.std.proofs.Common.{◌≡◌, ℕ, zero, suc, ◌+◌, ◌-◌, ◌*◌, ◌/◌, ◌%◌, ◌<◌, ◌≤◌, eqb, leb, true, List, [], ◌∷◌, length, take, drop, None, Ok, Err, sym, refl, ap, ◌∙◌, ⊎_elim, append-nil, add_comm, mul-suc, arith, take-take, drop-drop, take-add}
 use lib.Seq.{drop-nil, take-nil}
 use Rattle.std.specs.List.{AllByRecursion}
 use Rattle.std.proofs.lemmas.Bool.{and_parts, cases_lt, eqb-true, lt-ltb}
@@ -7,14 +7,13 @@ use Rattle.area.specs.Fault.{refuse}
 use Rattle.area.specs.declared.fault.Fault.{Fault}
 use Rattle.area.specs.declared.fault.Refusal.TheVariants.{OutOfRange}
 use Rattle.area.specs.Slice.{contents, spill, words_for}
-use Rattle.area.proofs.DigitLemmas.{chunks_under, joined_digits}
+use Rattle.area.proofs.DigitLemmas.{joined_digits}
 use Rattle.column.specs.Kind.{CAP, slot}
 use Rattle.storage.specs.Store.{join_words, length_stands}
 use Rattle.storage.proofs.StoreLemmas.{length-join_words}
 use Rattle.decode.specs.declared.span.Span.{Span}
-use Rattle.decode.specs.declared.decoded.DecodedStore.{DecodedStore}
-use Rattle.decode.specs.Decode.{DecodedSound, bytes_fault, part_of, slice_at, slices_of, span_answer, span_of, structure_fault}
-use Rattle.decode.proofs.DecodeLemmas.{ask-passed, span_inside, span_past, span_slice}
+use Rattle.decode.specs.Decode.{part_of, slice_at, slices_of, span_answer, span_of, structure_fault}
+use Rattle.decode.proofs.DecodeLemmas.{span_inside, span_past, span_slice}
 
 -- the bytes of some of the words
 pub spill-drop : (n : ℕ) (ws : List ℕ) → spill (drop n ws) ≡ drop (8 * n) (spill ws)
@@ -38,33 +37,27 @@ contents-join_words bs p n h m =
     rw (spill-take (words_for n) (drop p (join_words bs)), spill-drop p (join_words bs), spill-join_words bs h m)
     (take-take n (8 * words_for n) (drop (8 * p) bs) (omega arith))
 
-module _ (bs : List ℕ) (h : bytes_fault bs ≡ None) where
-  pub words-asked : structure_fault None (join_words bs) ≡ None
-  words-asked = (ask-passed (length_stands bs) _ _ _ h).1
-
-  -- a store of just these words
-  pub area_sound : {S : Type 0} (f : S → List ℕ) (d : DecodedStore S) → f d.store.now ≡ join_words bs → d.count ≡ length (slices_of (join_words bs)) → AllByRecursion (λ b. b < 256) bs → DecodedSound f d
-  area_sound f d e c u = record { asked = rw e words-asked; counted = rw e c; whole = rw e (chunks_under 256 8 (length bs / 8) bs (lit< tt) u) }
-
+-- a byte area whose words passed their questions
+module _ (bs : List ℕ) (z : length_stands bs ≡ true) (h : structure_fault None (join_words bs) ≡ None) where
   whole_words : length bs % 8 ≡ 0
-  whole_words = eqb-true _ _ (and_parts (eqb (length bs % 8) 0) (leb (length bs) 4294967288) (ask-passed (length_stands bs) _ _ _ h).0).0
+  whole_words = eqb-true _ _ (and_parts (eqb (length bs % 8) 0) (leb (length bs) 4294967288) z).0
 
   pub part_refused : (k : ℕ) (e : Fault) → Err e ≡ span_answer (join_words bs) k → (length (slices_of (join_words bs)) ≤ k) × (e ≡ refuse OutOfRange 0)
   part_refused k e a = ⊎_elim
-      (λ l. absurd (let t = lt-ltb k (length (slices_of (join_words bs))) l in let b = rw t at a in let z : ◌≡◌ {A = ℕ} 0 1 = cc in omega arith))
-      (λ m. (m, let b = a ∙ span_past (join_words bs) words-asked k m in cc))
+      (λ l. let t = lt-ltb k (length (slices_of (join_words bs))) l in let b = rw t at a in cc)
+      (λ m. (m, let b = a ∙ span_past (join_words bs) h k m in cc))
       (cases_lt k (length (slices_of (join_words bs))))
 
   module _ (k : ℕ) (s : Span) (a : Ok s ≡ span_answer (join_words bs) k) where
     found : (k < length (slices_of (join_words bs))) × (s ≡ span_of (join_words bs) k)
     found = ⊎_elim
         (λ l. (l, let t = lt-ltb k (length (slices_of (join_words bs))) l in cc (rw t at a)))
-        (λ m. absurd (let e = a ∙ span_past (join_words bs) words-asked k m in let z : ◌≡◌ {A = ℕ} 0 1 = cc in omega arith))
+        (λ m. let e = a ∙ span_past (join_words bs) h k m in cc)
         (cases_lt k (length (slices_of (join_words bs))))
 
     pub part_within : (8 * s.from + s.bytes ≤ length bs) × (length bs ≤ 8 * CAP)
     part_within =
-        let i = span_inside (join_words bs) words-asked k found.0 in
+        let i = span_inside (join_words bs) h k found.0 in
         let f = ap (λ t. t.from) found.1 in
         let b = ap (λ t. t.bytes) found.1 in
         let n = length-join_words bs in
@@ -74,4 +67,4 @@ module _ (bs : List ℕ) (h : bytes_fault bs ≡ None) where
     pub part_found : (p n : ℕ) → AllByRecursion (λ b. b < 256) bs → p ≡ 8 * s.from → n ≡ s.bytes → (k < length (slices_of (join_words bs))) × ((take n (drop p bs) ≡ part_of bs k) × (take n (drop p bs) ≡ contents (slot (slices_of (join_words bs)) k)))
     part_found p n u q r =
         let e : take n (drop p bs) ≡ part_of bs k = rw (q, r, found.1) refl in
-        (found.0, (e, e ∙ (sym (contents-join_words bs (span_of (join_words bs) k).from (span_of (join_words bs) k).bytes u whole_words) ∙ ap contents (span_slice (join_words bs) words-asked k found.0))))
+        (found.0, (e, e ∙ (sym (contents-join_words bs (span_of (join_words bs) k).from (span_of (join_words bs) k).bytes u whole_words) ∙ ap contents (span_slice (join_words bs) h k found.0))))

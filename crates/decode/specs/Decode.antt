@@ -1,6 +1,5 @@
 -- An index read back: the questions that are put to words before a kind looks at them, and the slices that they hold.
-use Rattle.std.specs.Prelude.{◌≡◌, ℕ, suc, ◌+◌, ◌-◌, ◌*◌, ◌/◌, ◌%◌, ◌^◌, ◌<◌, ◌≤◌, Bool, true, cond, ◌&&◌, List, [], ◌∷◌, length, take, drop, Some, None, Ok, Err, Option, Result, ◌==◌, nat_le, nat_lt, slice_index}
-use Rattle.std.specs.List.{AllByRecursion}
+use Rattle.std.specs.Prelude.{◌≡◌, ℕ, suc, ◌+◌, ◌-◌, ◌*◌, ◌/◌, ◌%◌, ◌<◌, ◌≤◌, Bool, true, cond, ◌&&◌, List, [], ◌∷◌, length, take, drop, Some, None, Ok, Err, Option, Result, ◌==◌, nat_le, nat_lt, slice_index}
 use Rattle.area.specs.Fault.{refuse}
 use Rattle.area.specs.Slice.{Slice, words_for, round_up, contents}
 use Rattle.area.specs.declared.fault.Fault.{Fault}
@@ -8,9 +7,7 @@ use Rattle.area.specs.declared.fault.Refusal.{Refusal}
 use Rattle.area.specs.declared.fault.Refusal.TheVariants.{ByteLength, NoWord, FirstWord, IndexCut, SliceCount, EndOutside, EndBeforeStart, OutOfRange}
 use Rattle.column.specs.Kind.{CAP, slot}
 use Rattle.storage.specs.Store.{join_words, length_stands}
-use Rattle.decode.specs.declared.decode.Decoded.{Decoded}
 use Rattle.decode.specs.declared.span.Span.{Span}
-use Rattle.decode.specs.declared.decoded.DecodedStore.{DecodedStore}
 
 -- the slice of n bytes that begins at word p
 abbrev pub slice_at : List ℕ → ℕ → ℕ → Slice
@@ -81,40 +78,20 @@ pub record Inside (ws : List ℕ) (s : Span) : Type 0 where
   pub within : s.from + words_for s.bytes ≤ length ws
   pub short : length ws ≤ CAP
 
--- words of a store of which the questions but 5 were asked, and their slices counted; f says which words a store has
-module _ {S : Type 0} (f : S → List ℕ) where
-  pub record DecodedSound (d : DecodedStore S) : Type 0 where
-    pub asked : structure_fault None (f d.store.now) ≡ None
-    pub counted : d.count ≡ length (slices_of (f d.store.now))
-    pub whole : AllByRecursion (λ w. w < 2 ^ 64) (f d.store.now)
-
-  -- what passes the questions is decoded; all else is refused with the first that it fails
-  abbrev pub decoded_answer : Option ℕ → S → Result (DecodedStore S) Fault → Type 0
-  decoded_answer m s (Ok d) = (structure_fault m (f s) ≡ None) × ((d.store.now ≡ s) × DecodedSound d)
-  decoded_answer m s (Err e) = structure_fault m (f s) ≡ Some e
-
--- The same of a byte area, which is asked 1 as such before its words are: its slices are parts of it.
+-- The questions of a byte area, which is asked 1 as such before its words are: its slices are parts of it.
 abbrev pub bytes_fault : List ℕ → Option Fault
 bytes_fault bs = ask (length_stands bs) ByteLength 0 (structure_fault None (join_words bs))
-
-pub record PartsSound (d : Decoded) : Type 0 where
-  pub asked : bytes_fault d.bytes.now ≡ None
-  pub counted : d.count ≡ length (slices_of (join_words d.bytes.now))
-
-abbrev pub parts_answer : List ℕ → Result Decoded Fault → Type 0
-parts_answer bs (Ok d) = (d.bytes.now ≡ bs) × PartsSound d
-parts_answer bs (Err e) = bytes_fault bs ≡ Some e
 
 -- the part of a byte area that is slice k
 abbrev pub part_of : List ℕ → ℕ → List ℕ
 part_of bs k = take (span_of (join_words bs) k).bytes (drop (8 * (span_of (join_words bs) k).from) bs)
 
 -- part k of a byte area that passed its questions; g says which bytes a part is
-abbrev pub part_answer : {P : Type 0} → (P → List ℕ) → List ℕ → ℕ → Result P Fault → Type 0
-part_answer g bs k (Ok p) = (k < length (slices_of (join_words bs))) × ((g p ≡ part_of bs k) × (g p ≡ contents (slot (slices_of (join_words bs)) k)))
-part_answer g bs k (Err e) = (length (slices_of (join_words bs)) ≤ k) × (e ≡ refuse OutOfRange 0)
+abbrev pub PartAnswer : {P : Type 0} → (P → List ℕ) → List ℕ → ℕ → Result P Fault → Type 0
+PartAnswer g bs k (Ok p) = (k < length (slices_of (join_words bs))) × ((g p ≡ part_of bs k) × (g p ≡ contents (slot (slices_of (join_words bs)) k)))
+PartAnswer g bs k (Err e) = (length (slices_of (join_words bs)) ≤ k) × (e ≡ refuse OutOfRange 0)
 
 -- the same with the questions before it
-abbrev pub asked_part : {P : Type 0} → (P → List ℕ) → List ℕ → ℕ → Option Fault → Result P Fault → Type 0
-asked_part g bs k None r = part_answer g bs k r
-asked_part g bs k (Some f) r = r ≡ Err f
+abbrev pub AskedPart : {P : Type 0} → (P → List ℕ) → List ℕ → ℕ → Option Fault → Result P Fault → Type 0
+AskedPart g bs k None r = PartAnswer g bs k r
+AskedPart g bs k (Some f) r = r ≡ Err f

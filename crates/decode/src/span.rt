@@ -1,5 +1,5 @@
 // Where a slice stands in a store.
-ghost use Rattle.std.specs.Prelude.{◌≡◌, ◌+◌, ◌*◌, ◌^◌, ◌<◌};
+ghost use Rattle.std.specs.Prelude.{◌≡◌};
 ghost use Rattle.column.specs.Column.{element};
 ghost use Rattle.area.specs.Slice.{words_for};
 ghost use Rattle.decode.specs.Decode.{Inside, slice_in};
@@ -17,21 +17,21 @@ pub struct Span {
 impl Span {
     // How many words the slice has.
     pub fn words(self) -> usize
-        ensures { self.bytes < 2 ^ 63 → result ≡ words_for self.bytes }
+        ensures { result ≡ words_for self.bytes }
     {
-        self.bytes.saturating_add(7) / 8
+        self.bytes.div_ceil(8)
     }
 
     // Word `i` of the slice; 10 past its words.
+    #[tactic(auto, using(crate::proofs::DecodeLemmas::element_span, crate::proofs::DecodeLemmas::element_after))]
     pub fn word<S: Store>(self, store: &S, i: usize) -> Result<u64, Fault>
         ensures { Inside (S.Store.words store.now) self → result ≡ element (slice_in (S.Store.words store.now) self).words i }
     {
         if i >= self.words() {
             return Err(Fault::at_start(Refusal::OutOfRange));
         }
-        match store.word(self.from.saturating_add(i)) {
-            Some(word) => Ok(word),
-            None => Err(Fault::at_start(Refusal::OutOfRange)),
-        }
+        store
+            .word(self.from.saturating_add(i))
+            .ok_or(Fault::at_start(Refusal::OutOfRange))
     }
 }

@@ -1,7 +1,7 @@
 // Stored images, admitted and refused, read in place, and written again. Each line is what a call answers.
 #![tactic(auto)]
 
-use area::fault::*;
+use area::fault::Fault;
 use boolean::bools::*;
 use boolean::form::*;
 use column::append::append;
@@ -10,7 +10,9 @@ use column::kind::*;
 use column::run::*;
 use decode::decode::*;
 use decode::decoded::DecodedStore;
+use decode::span::Span;
 use indexed::encode;
+use indexed::write::write_store;
 use kinds::check::{admit, admit_bytes};
 use kinds::kinds::*;
 use offsets::bounds::bounds;
@@ -21,43 +23,44 @@ use read::form::FromBytes;
 use read::run::*;
 use read::validate::validate;
 use read::view::*;
-use std::io;
+use std::{fmt, io};
 use storage::compare::same_bytes;
 use storage::store::*;
+use storage::write::ByteSink;
 use tuple::empties::*;
 use tuple::form::*;
 use tuple::pair::*;
 
-fn refused(rt: &HostRuntime, name: &str, fault: Fault) -> io::Result<()> {
-    let number = fault.refusal.number();
-    let place = fault.place;
-    println!(rt; "{name}: refused {number} {place}")
-}
+// What prints stands in each program: a function of a library that only prints has nothing to promise.
 
+// Prints a name and how long an admitted list is, or the refusal.
 fn told(rt: &HostRuntime, name: &str, answer: Result<usize, Fault>) -> io::Result<()> {
     match answer {
         Ok(length) => println!(rt; "{name}: admitted {length}"),
-        Err(fault) => refused(rt, name, fault),
+        Err(fault) => println!(rt; "{name}: {fault}"),
     }
+}
+
+// Prints a name and numbers, in hexadecimal.
+fn hex<T: fmt::Radix + Copy>(rt: &HostRuntime, name: &str, numbers: &[T]) -> io::Result<()> {
+    print!(rt; "{name}:")?;
+    for n in numbers {
+        print!(rt; " {n:x}")?;
+    }
+    println!(rt; "")
 }
 
 // The same words as bytes, and between other words.
 fn as_bytes(words: &[u64]) -> [u8; 128] {
     let mut bytes = [0u8; 128];
-    for i in 0..words.len().min(16) {
-        let word = words[i].to_le_bytes();
-        for j in 0..8 {
-            bytes[8 * i + j] = word[j];
-        }
-    }
+    let _ = write_store(&WordArea::new(words), &mut ByteSink::new(&mut bytes));
     bytes
 }
 
 fn between_others(words: &[u64]) -> [u64; 18] {
     let mut wide = [0xffu64; 18];
-    for i in 0..words.len().min(16) {
-        wide[i + 1] = words[i];
-    }
+    let n = words.len().min(16);
+    wide[1..n + 1].copy_from_slice(&words[..n]);
     wide
 }
 
@@ -66,17 +69,17 @@ fn check(rt: &HostRuntime, name: &str, kind: u32, words: &[u64]) -> io::Result<(
     let bytes = as_bytes(words);
     let wide = between_others(words);
     let n = words.len().min(16);
-    let card = match CardKind::numbered(kind) {
+    let card = match CardKind::try_from(kind) {
         Ok(card) => card,
-        Err(fault) => return refused(rt, name, fault),
+        Err(fault) => return println!(rt; "{name}: {fault}"),
     };
-    told(rt, name, admit(card, &WordArea::new(words)))?;
+    let from_words = admit(card, &WordArea::new(words));
+    told(rt, name, from_words)?;
     let from_bytes = admit_bytes(kind, &bytes[..8 * n]);
-    let from_window = match Window::new(WordArea::new(&wide), 1, n) {
-        Ok(window) => admit(card, &window),
-        Err(fault) => Err(fault),
-    };
-    if from_bytes != from_window || from_bytes != admit(card, &WordArea::new(words)) {
+    let from_window = Window::new(WordArea::new(&wide), 1, n).and_then(|window| admit(
+        card, &window,
+    ));
+    if from_bytes != from_window || from_bytes != from_words {
         println!(rt; "{name}: another store answers otherwise")?;
     }
     Ok(())
@@ -184,26 +187,16 @@ fn block_tables(rt: &HostRuntime) -> io::Result<()> {
 fn show<A: AsBytes>(rt: &HostRuntime, name: &str, item: &A) -> io::Result<()> {
     let mut area = [0u64; 16];
     match encode(item, &mut area, 0) {
-        Ok(words) => {
-            print!(rt; "{name}:")?;
-            for w in area.iter().take(words) {
-                print!(rt; " {w:x}")?;
-            }
-            println!(rt; "")
-        }
-        Err(fault) => refused(rt, name, fault),
+        Ok(words) => hex(rt, name, &area[..words]),
+        Err(fault) => println!(rt; "{name}: {fault}"),
     }
 }
 
 // The image of the read form of an image.
 fn again<K: FromBytes>(rt: &HostRuntime, name: &str, words: &[u64]) -> io::Result<()> {
-    let store = WordArea::new(words);
-    match validate::<K, WordArea>(&store) {
-        Ok(form) => {
-            let view: View<K, WordArea> = View::new(&form, &store);
-            show(rt, name, &view)
-        }
-        Err(fault) => refused(rt, name, fault),
+    match validate::<K, WordArea>(WordArea::new(words)) {
+        Ok(image) => show(rt, name, &image.view()),
+        Err(fault) => println!(rt; "{name}: {fault}"),
     }
 }
 
@@ -226,73 +219,46 @@ fn written_again(rt: &HostRuntime) -> io::Result<()> {
     again::<Pair<Run<u64>, Run<u8>>>(rt, "a pair", &[24, 40, 42, 5, 6, 0xff0807])
 }
 
-fn told_bounds(rt: &HostRuntime, name: &str, answer: Result<(u64, u64), Fault>) -> io::Result<()> {
-    match answer {
-        Ok((lower, upper)) => println!(rt; "{name}: {lower} {upper}"),
-        Err(fault) => refused(rt, name, fault),
-    }
-}
-
-fn told_bits(rt: &HostRuntime, name: &str, answer: Result<u64, Fault>) -> io::Result<()> {
-    match answer {
-        Ok(bits) => println!(rt; "{name}: {bits:x}"),
-        Err(fault) => refused(rt, name, fault),
-    }
-}
-
 // Ends that are read where they stand, and appended to a column.
 fn ends<K: FromBytes<Elem = u64>>(rt: &HostRuntime, words: &[u64]) -> io::Result<()> {
-    let store = WordArea::new(words);
-    let form = match validate::<K, WordArea>(&store) {
-        Ok(form) => form,
-        Err(fault) => return refused(rt, "ends", fault),
+    let image = match validate::<K, WordArea>(WordArea::new(words)) {
+        Ok(image) => image,
+        Err(fault) => return println!(rt; "ends: {fault}"),
     };
-    let view: View<K, WordArea> = View::new(&form, &store);
-    told_bounds(rt, "bounds 0", bounds(&view, 0))?;
-    told_bounds(rt, "bounds 3", bounds(&view, 3))?;
-    told_bounds(rt, "bounds 4", bounds(&view, 4))?;
+    let view = image.view();
+    for i in [0, 3, 4] {
+        match bounds(&view, i) {
+            Ok((lower, upper)) => println!(rt; "bounds {i}: {lower} {upper}")?,
+            Err(fault) => println!(rt; "bounds {i}: {fault}")?,
+        }
+    }
     let mut cells = [0u64; 1];
     let mut column = Strides::new(Run::new(&mut cells));
     if let Err(fault) = append(&mut column, &view, 1, 4) {
-        refused(rt, "6 9 10", fault)?;
+        println!(rt; "6 9 10: {fault}")?;
     }
     show(rt, "appended as far as it goes", &column)
 }
 
 fn marks(rt: &HostRuntime) -> io::Result<()> {
     let words = [24, 32, 48, 0xC000000000000000, 0xff, 3];
-    let store = WordArea::new(&words);
-    let form = match validate::<Bools<Run<u64>>, WordArea>(&store) {
-        Ok(form) => form,
-        Err(fault) => return refused(rt, "marks", fault),
+    let image = match validate::<Bools<Run<u64>>, WordArea>(WordArea::new(&words)) {
+        Ok(image) => image,
+        Err(fault) => return println!(rt; "marks: {fault}"),
     };
-    told_bits(
-        rt,
-        "bits_at 62 5",
-        bits_at::<Run<u64>, WordArea>(&form, &store, 62, 5),
-    )?;
-    told_bits(
-        rt,
-        "bits_at 63 5",
-        bits_at::<Run<u64>, WordArea>(&form, &store, 63, 5),
-    )?;
-    told_bits(
-        rt,
-        "bits_at 0 65",
-        bits_at::<Run<u64>, WordArea>(&form, &store, 0, 65),
-    )
+    for (pos, count) in [(62, 5), (63, 5), (0, 65)] {
+        match bits_at(&image.view(), pos, count) {
+            Ok(bits) => println!(rt; "bits_at {pos} {count}: {bits:x}")?,
+            Err(fault) => println!(rt; "bits_at {pos} {count}: {fault}")?,
+        }
+    }
+    Ok(())
 }
 
 fn told_part(rt: &HostRuntime, name: &str, answer: Result<&[u8], Fault>) -> io::Result<()> {
     match answer {
-        Ok(part) => {
-            print!(rt; "{name}:")?;
-            for b in part {
-                print!(rt; " {b:x}")?;
-            }
-            println!(rt; "")
-        }
-        Err(fault) => refused(rt, name, fault),
+        Ok(part) => hex(rt, name, part),
+        Err(fault) => println!(rt; "{name}: {fault}"),
     }
 }
 
@@ -310,7 +276,7 @@ fn slices(rt: &HostRuntime) -> io::Result<()> {
             println!(rt; "slices: {n}")?;
             told_part(rt, "decoded 1", all.get(1))?;
         }
-        Err(fault) => refused(rt, "slices", fault)?,
+        Err(fault) => println!(rt; "slices: {fault}")?,
     }
     let cut = as_bytes(&[24, 27, 27, 0x030201, 9]);
     told_part(rt, "24 27 27", decode_index(&cut, 0))
@@ -318,18 +284,9 @@ fn slices(rt: &HostRuntime) -> io::Result<()> {
 
 // The place of a slice in a store.
 fn place(rt: &HostRuntime, words: &[u64], k: usize) -> io::Result<()> {
-    let store = WordArea::new(words);
-    let found = match DecodedStore::new(&store) {
-        Ok(found) => found.get(k),
-        Err(fault) => Err(fault),
-    };
-    match found {
-        Ok(span) => {
-            let from = span.from;
-            let length = span.bytes;
-            println!(rt; "slice {k} at word {from}, {length} bytes")
-        }
-        Err(fault) => refused(rt, "no such slice", fault),
+    match DecodedStore::new(WordArea::new(words)).and_then(|found| found.get(k)) {
+        Ok(Span { from, bytes }) => println!(rt; "slice {k} at word {from}, {bytes} bytes"),
+        Err(fault) => println!(rt; "no such slice: {fault}"),
     }
 }
 
@@ -340,7 +297,7 @@ fn compared(rt: &HostRuntime) -> io::Result<()> {
     println!(rt; "same bytes: {a} {b} {c}")?;
     match Window::new(WordArea::new(&[1, 2]), 1, 2) {
         Ok(_) => println!(rt; "a window past the end"),
-        Err(fault) => refused(rt, "a window past the end", fault),
+        Err(fault) => println!(rt; "a window past the end: {fault}"),
     }
 }
 

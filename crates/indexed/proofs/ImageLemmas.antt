@@ -1,7 +1,8 @@
 -- Images: how long they are, where each slice stands, what a slice's length tells, and what the writers leave.
-use Rattle.std.proofs.Common.{◌≡◌, ℕ, zero, suc, ◌+◌, ◌*◌, ◌/◌, ◌<◌, ◌≤◌, min, ◌&&◌, leb, List, [], ◌∷◌, ◌++◌, length, get_or, take, drop, set, IsErrAnd, Ok, Err, Result, sym, refl, ap, ◌∙◌, append-nil, arith, length-append, length-drop, take-append-drop, take_at}
+use Rattle.std.proofs.Common.{◌≡◌, ℕ, zero, suc, ◌+◌, ◌*◌, ◌<◌, ◌≤◌, min, ◌&&◌, leb, List, [], ◌∷◌, ◌++◌, length, get_or, slice_index, take, drop, set, IsErrAnd, Ok, Err, Result, sym, refl, ap, ◌∙◌, append-nil, add-one, arith, length-append, take-append-drop}
 use borrow.Rule.Slice.PartMut.{put_mid}
-use lib.Seq.{paste, take-length}
+use lib.Seq.{paste}
+use Rattle.std.specs.Int.{div_ceil, next_multiple_of}
 use Rattle.std.specs.List.{between, AllByRecursion}
 use Rattle.std.proofs.ByRecursion.{All-get_or}
 use Rattle.std.proofs.lemmas.List.Edits.{length-between, paste_more, paste-paste}
@@ -77,42 +78,44 @@ exit_long {r} ss k f e w l h =
     let q = long_err ss k f w l h in
     p.1 ∙ too_long ss p.0 (p.2 ∙ q.0) q.1
 
--- where a slice ends, if the first starts at word q
-pub get_or-ends : (ss : List Slice) (q k : ℕ) → AllByRecursion WellFormed ss → k < length ss → get_or (ends (8 * q) ss) k 0 ≡ 8 * (q + weight (take k ss)) + (slot ss k).bytes
-get_or-ends [] q k w l = absurd (omega arith)
-get_or-ends (s ∷ ss) q zero w l = omega arith
-get_or-ends (s ∷ ss) q (suc k) w l =
-    let e : words_for (8 * q + s.bytes) ≡ q + length s.words = omega (arith, w.0.1) in
-    rw e (get_or-ends ss (q + length s.words) k w.1 (omega arith) ∙ omega arith)
+-- the words of a slice as the loops count them
+pub words_turn : (ss : List Slice) (k n m : ℕ) → AllByRecursion WellFormed ss → Ok n ≡ slice_length ss k → m ≡ div_ceil n 8 → m ≡ length (slot ss k).words
+words_turn ss k n m w h e = let q = length_ok ss k n h in omega (arith, q.0, length-slot ss k w q.1)
 
--- the words of a slice as the loops count them, m being its bytes and 7 more
-pub words_turn : (ss : List Slice) (k n m : ℕ) → AllByRecursion WellFormed ss → Ok n ≡ slice_length ss k → m ≡ min (n + 7) 18446744073709551615 → m / 8 ≡ length (slot ss k).words
-words_turn ss k n m w h e = let q = length_ok ss k n h in omega (arith, q.0, q.2, length-slot ss k w q.1)
-
-pub weight_turn : (ss : List Slice) (k n m : ℕ) → AllByRecursion WellFormed ss → Ok n ≡ slice_length ss k → m ≡ min (n + 7) 18446744073709551615 → weight (take (k + 1) ss) ≡ weight (take k ss) + m / 8
+pub weight_turn : (ss : List Slice) (k n m : ℕ) → AllByRecursion WellFormed ss → Ok n ≡ slice_length ss k → m ≡ div_ceil n 8 → weight (take (k + 1) ss) ≡ weight (take k ss) + m
 weight_turn ss k n m w h e = omega (arith, words_turn ss k n m w h e, weight_more ss k (length_ok ss k n h).1)
 
--- one turn of the index: p is where slice k starts, e where it ends, and m is 7 past that
-pub index_turn : (ss : List Slice) (k n p e m : ℕ) → AllByRecursion WellFormed ss → Ok n ≡ slice_length ss k → length (image ss) ≤ CAP → p ≡ 8 * (1 + length ss + weight (take k ss)) → e ≡ min (p + n) 18446744073709551615 → m ≡ min (e + 7) 18446744073709551615 → (m / 8 * 8 ≡ 8 * (1 + length ss + weight (take (k + 1) ss))) × (e ≡ get_or (ends (8 * (1 + length ss)) ss) k 0)
-index_turn ss k n p e m w h l a b d =
+-- each end from the one before it, and how large the ends are
+ends_next : (e : ℕ) (ss : List Slice) (k : ℕ) → k < length ss → get_or (ends (round_up e) ss) k 0 ≡ round_up (get_or (e ∷ ends (round_up e) ss) k 0) + (slot ss k).bytes
+ends_next e [] k l = absurd (omega arith)
+ends_next e (s ∷ ss) zero l = refl
+ends_next e (s ∷ ss) (suc k) l = ends_next (round_up e + s.bytes) ss k (omega arith)
+
+ends_below : (ss : List Slice) (q k : ℕ) → AllByRecursion WellFormed ss → k < length ss → get_or (ends (8 * q) ss) k 0 ≤ 8 * (q + weight ss)
+ends_below [] q k w l = absurd (omega arith)
+ends_below (s ∷ ss) q zero w l = omega (arith, w.0.1)
+ends_below (s ∷ ss) q (suc k) w l =
+    let e : words_for (8 * q + s.bytes) ≡ q + length s.words = omega (arith, w.0.1) in
+    rw e (omega (arith, ends_below ss (q + length s.words) k w.1 (omega arith)))
+
+-- the same of the index
+pub index_next : (ss : List Slice) (k n e : ℕ) → Ok n ≡ slice_length ss k → e ≡ slice_index (index ss) k → next_multiple_of e 8 + n ≡ slice_index (index ss) (k + 1)
+index_next ss k n e h a =
     let q = length_ok ss k n h in
-    let z : 8 * (1 + length ss + weight (take (k + 1) ss)) ≤ 8 * CAP = omega (arith, length-image ss, weight-take ss (k + 1)) in
-    let y = weight_more ss k q.1 in
-    let x = length-slot ss k w q.1 in
-    (omega (arith, q.0), omega (arith, q.0, get_or-ends ss (1 + length ss) k w q.1))
+    let r : round_up (8 * (1 + length ss)) ≡ 8 * (1 + length ss) = omega arith in
+    let x = rw r at (ends_next (8 * (1 + length ss)) ss k q.1) in
+    rw add-one (omega (arith, a, q.0, x))
+
+pub index_below : (ss : List Slice) (k e : ℕ) → AllByRecursion WellFormed ss → length (image ss) ≤ CAP → k ≤ length ss → e ≡ slice_index (index ss) k → e ≤ 8 * CAP
+index_below ss zero e w m l a = omega (arith, length-image ss)
+index_below ss (suc k) e w m l a = omega (arith, length-image ss, a, ends_below ss (1 + length ss) k w l)
+
+pub length-index : (ss : List Slice) → length (index ss) ≡ 1 + length ss
+length-index ss = omega (arith, length-ends (8 * (1 + length ss)) ss)
 
 -- a loop that copies s over d from `at` on
 pub paste_turn : (d : List ℕ) (at : ℕ) (s : List ℕ) (part : List ℕ) (i j v : ℕ) → part ≡ paste d at s i → j ≡ at + i → v ≡ get_or s i 0 → at + i < length d → i < length s → set part j v ≡ paste d at s (i + 1)
 paste_turn d at s part i j v a b c l m = rw (a, b, c) (paste_more d at s i 0 l m)
-
--- the index that is written: its first word, and then the ends
-pub index-written : (ss : List Slice) (d : List ℕ) (p k : ℕ) → 0 < length d → p ≡ 8 * (1 + length ss) → k ≡ length ss → paste (set d 0 p) 1 (ends (8 * (1 + length ss)) ss) k ≡ index ss ++ drop (length (index ss)) d
-index-written ss [] p k l a b = absurd (omega arith)
-index-written ss (x ∷ d) p k l a b =
-    let n = length-ends (8 * (1 + length ss)) ss in
-    let t = take_all k (ends (8 * (1 + length ss)) ss) (omega arith) in
-    let e : 1 + k ≡ suc (length (ends (8 * (1 + length ss)) ss)) = omega arith in
-    rw (e, t, a)
 
 -- as many words written over as many
 pub paste_over : (d s : List ℕ) (n : ℕ) → length d ≡ length s → n ≡ length s → paste d 0 s n ≡ s
@@ -121,6 +124,10 @@ paste_over d s n a b = rw (take_all n s (omega arith), drop_all (0 + n) d (omega
 -- a word of a slice that has a length
 pub word_ok : (ss : List Slice) (k i : ℕ) → slice_length ss k ≡ Ok (slot ss k).bytes → i < length (slot ss k).words → word_in_slice ss k i ≡ Ok (get_or (slot ss k).words i 0)
 word_ok ss k i h l = rw (h, word_in_slice) (element_at_lem (slot ss k).words i 0 l)
+
+-- the next slice has room in a part of n words, of which the slices take what is after `at`
+pub slice_room : (ss : List Slice) (k b m at place n : ℕ) → AllByRecursion WellFormed ss → Ok b ≡ slice_length ss k → m ≡ div_ceil b 8 → place ≡ at + weight (take k ss) → at + length (words_of ss) ≤ n → place + m ≤ n
+slice_room ss k b m at place n w h e p l = omega (arith, weight_turn ss k b m w h e, weight-take ss (k + 1), length-words_of ss)
 
 -- one slice more is written, where b is m as the borrow of a part gives it
 pub slices_turn : (ss : List Slice) (d : List ℕ) (at k place m b : ℕ) (part ys : List ℕ) → k < length ss → at ≤ length d → m ≡ length (slot ss k).words → m ≡ b → place ≡ at + weight (take k ss) → part ≡ paste d at (words_of (take k ss)) (weight (take k ss)) → ys ≡ (slot ss k).words → put_mid place b part ys ≡ paste d at (words_of (take (k + 1) ss)) (weight (take (k + 1) ss))
@@ -147,30 +154,17 @@ encode_after ss area place n b ys h l e y =
     ∙ ap (paste area place (image ss)) q.0
     ∙ sym (cond-true (leb (length (image ss)) CAP && leb (place + length (image ss)) (length area)) _ _ (and_from _ _ (le-leb _ _ q.1) (le-leb _ _ (omega (arith, q.0)))))
 
--- the slices after the index
-image-written : (ss : List Slice) (d : List ℕ) (at : ℕ) → at ≡ 1 + length ss → length d ≡ length (image ss) → paste (index ss ++ drop (length (index ss)) d) at (words_of ss) (length (words_of ss)) ≡ image ss
-image-written ss d at a b =
-    let n : length (index ss) ≡ at = omega (arith, length-ends (8 * (1 + length ss)) ss) in
-    let x : List ℕ = index ss ++ drop (length (index ss)) d in
-    let m : length x ≤ at + length (words_of ss) = omega (arith, length-append (index ss) (drop (length (index ss)) d), length-drop (length (index ss)) d, length-append (index ss) (words_of ss)) in
-    (λ i. (take_at (index ss) (drop (length (index ss)) d) at n i ++ take-length (words_of ss) i) ++ drop_all (at + length (words_of ss)) x m i)
-    ∙ append-nil (image ss)
+-- the part of an area that the writers are lent has just the image's words
+pub length-part : (ss : List Slice) (area : List ℕ) (place n : ℕ) → Ok n ≡ word_length_answer ss → place + n ≤ length area → length (between place (place + n) area) ≡ length (image ss)
+length-part ss area place n h l = length-between area place (place + n) l ∙ omega (arith, (words_ok ss n h).0)
 
--- the index leaves room for the slices
-room_left : (ss : List Slice) (d part : List ℕ) (at : ℕ) → at ≡ 1 + length ss → length d ≡ length (image ss) → part ≡ index ss ++ drop (length (index ss)) d → at + length (words_of ss) ≤ length part
-room_left ss d part at a b p =
-    omega (arith, ap length p, length-append (index ss) (drop (length (index ss)) d), length-drop (length (index ss)) d, length-append (index ss) (words_of ss), length-ends (8 * (1 + length ss)) ss)
-
--- what the two writers leave of the part of an area that has just the image's words: R and S are of their answers
-pub image_left : {R S : Type 0} (ss : List Slice) (area : List ℕ) (place n k at : ℕ) (part last : List ℕ) → Ok n ≡ word_length_answer ss → place + n ≤ length area → k ≡ min (length ss) CAP → at ≡ min (k + 1) 18446744073709551615 → (length (image ss) ≤ CAP → length (image ss) ≤ length (between place (place + n) area) → R × (part ≡ index ss ++ drop (length (index ss)) (between place (place + n) area))) → (length (image ss) ≤ CAP → at + length (words_of ss) ≤ length part → S × (last ≡ paste part at (words_of ss) (length (words_of ss)))) → S × (last ≡ image ss)
-image_left ss area place n k at part last h l a b first second =
-    let q = words_ok ss n h in
-    let d : List ℕ = between place (place + n) area in
-    let m : length d ≡ length (image ss) = length-between area place (place + n) l ∙ omega (arith, q.0) in
-    let e : at ≡ 1 + length ss = omega (arith, q.1, length-image ss) in
-    let p = (first q.1 (omega arith)).1 in
-    let r = second q.1 (room_left ss d part at e m p) in
-    (r.0, r.1 ∙ ap (λ (x : List ℕ). paste x at (words_of ss) (length (words_of ss))) p ∙ image-written ss d at e m)
+-- what they leave of it
+pub image_left : (ss : List Slice) (d part last : List ℕ) (at : ℕ) → at ≡ 0 + length (index ss) → length d ≡ length (image ss) → part ≡ paste d 0 (index ss) (length (index ss)) → last ≡ paste part at (words_of ss) (length (words_of ss)) → last ≡ image ss
+image_left ss d part last at a l p e =
+    e
+    ∙ (λ i. paste (p i) (a i) (words_of ss) (length (words_of ss)))
+    ∙ paste-paste d 0 (index ss) (words_of ss) (length (index ss)) (length (words_of ss)) refl refl (omega arith)
+    ∙ paste_over d (image ss) (length (index ss) + length (words_of ss)) l (sym (length-append (index ss) (words_of ss)))
 
 pub err_not_ok : {X E : Type 0} {f : E} {x : X} → Err f ≡ Ok x → ⊥
 err_not_ok h = let z : ◌≡◌ {A = ℕ} 0 1 = cc in omega arith

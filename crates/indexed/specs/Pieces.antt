@@ -4,11 +4,22 @@ use Rattle.std.specs.List.{flat_map, AllByRecursion}
 use Rattle.area.specs.Digits.{digits, chunks}
 use Rattle.area.specs.Fault.{refuse}
 use Rattle.area.specs.Slice.{Slice, ZeroPadded, words_for, contents, spill}
+use Rattle.area.specs.declared.fault.Fault.{Fault}
 use Rattle.area.specs.declared.fault.Refusal.TheVariants.{NoRoom, ImageTooLong}
 use Rattle.column.specs.Kind.{CAP}
+use Rattle.storage.specs.declared.write.WriteBytes.{Ghosts as SinkMembers}
 use Rattle.indexed.specs.Image.{image, index}
 use Rattle.indexed.specs.declared.write.WriteFault.{WriteFault}
 use Rattle.indexed.specs.declared.write.WriteFault.TheVariants.{TooLong, Full}
+
+-- the refusal that a fault of a write carries
+abbrev pub refusal_of : {F : Type 0} → WriteFault F → Fault
+refusal_of (TooLong f) = f
+refusal_of (Full f e) = f
+
+-- the bytes of pieces in order
+abbrev pub joined : List (List ℕ) → List ℕ
+joined = flat_map (λ p. p)
 
 -- the padding after a slice's last word, of which n bytes count
 abbrev pub padding : ℕ → List (List ℕ)
@@ -29,19 +40,19 @@ given room (p ∷ ps) = cond (nat_le (length p) room) (suc (given (room - length
 
 -- the bytes of the pieces that are taken
 abbrev pub bytes_given : ℕ → List (List ℕ) → List ℕ
-bytes_given room ps = flat_map (λ p. p) (take (given room ps) ps)
+bytes_given room ps = joined (take (given room ps) ps)
 
--- a sink by what it has taken, its room, what it has not reached, and its fault; s before and t after
-module _ {W F : Type 0} (taken : W → List ℕ) (room : W → ℕ) (beyond : W → List ℕ) (fault : W → List ℕ → F) where
+-- over a sink by its members; s before and t after
+module _ {W F : Type 0} (sink : SinkMembers W F) where
   -- pieces were given in order, as many as fit
   pub record Gave (ps : List (List ℕ)) (s t : W) : Type 0 where
-    pub bytes : taken t ≡ taken s ++ bytes_given (room s) ps
-    pub left : room t ≡ room s - length (bytes_given (room s) ps)
-    pub rest : beyond t ≡ drop (length (bytes_given (room s) ps)) (beyond s)
+    pub bytes : sink.taken t ≡ sink.taken s ++ bytes_given (sink.room s) ps
+    pub left : sink.room t ≡ sink.room s - length (bytes_given (sink.room s) ps)
+    pub rest : sink.beyond t ≡ drop (length (bytes_given (sink.room s) ps)) (sink.beyond s)
 
   -- the answer: 14 with the number of the first piece that does not fit, and the fault of the sink at that piece
   abbrev pub give_answer : List (List ℕ) → W → W → Result (Unit {0}) (WriteFault F)
-  give_answer ps s t = cond (given (room s) ps == length ps) (Ok tt) (Err (Full (refuse NoRoom (given (room s) ps)) (fault t (slice_index_or ps (given (room s) ps) []))))
+  give_answer ps s t = cond (given (sink.room s) ps == length ps) (Ok tt) (Err (Full (refuse NoRoom (given (sink.room s) ps)) (sink.fault t (slice_index_or ps (given (sink.room s) ps) []))))
 
   abbrev pub Given : List (List ℕ) → W → W → Result (Unit {0}) (WriteFault F) → Type 0
   Given ps s t r = (r ≡ give_answer ps s t) × Gave ps s t
@@ -50,5 +61,5 @@ module _ {W F : Type 0} (taken : W → List ℕ) (room : W → ℕ) (beyond : W 
   -- of it was taken and the slices are zero padded, the sink has the bytes of the image's words.
   pub record Written (ss : List Slice) (s t : W) (r : Result (Unit {0}) (WriteFault F)) : Type 0 where
     pub short : length (image ss) ≤ CAP → (r ≡ give_answer (pieces ss) s t) × Gave (pieces ss) s t
-    pub whole : r ≡ Ok tt → AllByRecursion ZeroPadded ss → taken t ≡ taken s ++ spill (image ss)
+    pub whole : r ≡ Ok tt → AllByRecursion ZeroPadded ss → sink.taken t ≡ sink.taken s ++ spill (image ss)
     pub long : CAP < length (image ss) → (r ≡ Err (TooLong (refuse ImageTooLong 0))) × (t ≡ s)

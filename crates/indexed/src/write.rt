@@ -1,64 +1,86 @@
 // Writing an image to a sink, piece by piece: each index word, then slice by slice each word, the last cut, and any
 // zero padding.
-ghost use Rattle.std.specs.Prelude.{◌≡◌, ◌≤◌, [], ◌∷◌, map, length, Ok};
+ghost use Rattle.std.specs.Prelude.{◌≡◌, ◌≤◌, [], ◌∷◌, map, length, Ok, Some};
 ghost use Rattle.std.specs.List.{flat_map, AllByRecursion};
+ghost use Rattle.area.specs.Fault.{refusal_text};
 ghost use Rattle.area.specs.Digits.{digits, chunks};
 ghost use Rattle.area.specs.Slice.{WellFormed, words_for, contents};
 ghost use Rattle.column.specs.Column.{slice_length};
 ghost use Rattle.column.specs.Kind.{CAP, slot};
 ghost use Rattle.indexed.specs.Gives.{Gives};
 ghost use Rattle.indexed.specs.Image.{image, index};
-ghost use Rattle.indexed.specs.Pieces.{Given, Written, slice_pieces};
+ghost use Rattle.indexed.specs.Pieces.{Given, Written, refusal_of, slice_pieces};
+ghost use Rattle.indexed.specs.declared.write.WriteFault.TheVariants.{TooLong};
 
-use crate::length_in_words;
+use crate::{length_in_words, next_end};
 use area::fault::{Fault, Refusal};
 use column::kind::AsBytes;
+use std::fmt;
 use storage::store::Store;
 use storage::write::WriteBytes;
 
 // A refused write: 15 before the first piece, or 14 with the number of the piece, from 0, and the sink's own fault.
+#[derive(Clone, Copy, PartialEq, Eq, Debug)]
 pub enum WriteFault<F> {
     TooLong(Fault),
     Full(Fault, F),
 }
 
-// Gives one piece, and counts it.
-fn give<W: WriteBytes>(
-    sink: &mut W,
-    bytes: &[u8],
-    piece: &mut usize,
-) -> Result<(), WriteFault<W::Error>>
-    ensures { Gives W.WriteBytes.taken W.WriteBytes.room W.WriteBytes.beyond W.WriteBytes.fault piece.old (bytes.now ∷ []) sink.old sink.new piece.new result }
-{
-    match sink.write_all(bytes) {
-        Ok(()) => {
-            *piece = piece.saturating_add(1);
-            Ok(())
+impl<F> From<Fault> for WriteFault<F> {
+    ghost from_gives = { λ fault refused. refused ≡ TooLong fault };
+
+    fn from(fault: Fault) -> WriteFault<F> {
+        WriteFault::TooLong(fault)
+    }
+}
+
+// The refusal that it carries, as the programs print it.
+impl<F> fmt::Display for WriteFault<F> {
+    ghost output = { λ refused. Some (refusal_text (refusal_of refused)) };
+
+    fn fmt<W: fmt::Write>(&self, f: &mut fmt::Formatter<W>) -> fmt::Result {
+        match self {
+            WriteFault::TooLong(fault) | WriteFault::Full(fault, _) => write!(f, "{fault}"),
         }
-        Err(fault) => Err(WriteFault::Full(Fault::at(Refusal::NoRoom, *piece), fault)),
+    }
+}
+
+// A sink, and how many pieces it was given.
+#[derive(Drop)]
+struct Counted<'w, W> {
+    sink: &'w mut W,
+    piece: usize,
+}
+
+impl<'w, W: WriteBytes> Counted<'w, W> {
+    // Gives one piece, and counts it.
+    fn give(&mut self, bytes: &[u8]) -> Result<(), WriteFault<W::Error>>
+        ensures { Gives W.WriteBytes (bytes.now ∷ []) self.old self.new result }
+    {
+        let refused = Fault::at(Refusal::NoRoom, self.piece);
+        self.sink
+            .write_all(bytes)
+            .map_err(|fault| WriteFault::Full(refused, fault))?;
+        self.piece = self.piece.saturating_add(1);
+        Ok(())
     }
 }
 
 // Gives the words of the index.
 fn write_index<A: AsBytes, W: WriteBytes>(
     item: &A,
-    sink: &mut W,
-    piece: &mut usize,
+    out: &mut Counted<'_, W>,
 ) -> Result<(), WriteFault<W::Error>>
-    ensures formed { A.Index.sound item.now → AllByRecursion WellFormed (A.AsBytes.slices item.now) }
-    ensures gives { A.Index.sound item.now → length (image (A.AsBytes.slices item.now)) ≤ CAP → Gives W.WriteBytes.taken W.WriteBytes.room W.WriteBytes.beyond W.WriteBytes.fault piece.old (map (digits 256 8) (index (A.AsBytes.slices item.now))) sink.old sink.new piece.new result }
+    requires short { length (image (A.AsBytes.slices item.now)) ≤ CAP }
+    ensures formed { AllByRecursion WellFormed (A.AsBytes.slices item.now) }
+    ensures gives { Gives W.WriteBytes (map (digits 256 8) (index (A.AsBytes.slices item.now))) out.old out.new result }
 {
     let count = item.slices();
-    let mut start = count.saturating_add(1).saturating_mul(8);
-    give(sink, &(start as u64).to_le_bytes(), piece)?;
+    let mut end = 8 * (1 + count);
+    out.give(&(end as u64).to_le_bytes())?;
     for k in 0..count {
-        let bytes = match item.slice_len(k) {
-            Ok(bytes) => bytes,
-            Err(fault) => return Err(WriteFault::TooLong(fault)),
-        };
-        let end = start.saturating_add(bytes);
-        give(sink, &(end as u64).to_le_bytes(), piece)?;
-        start = end.saturating_add(7) / 8 * 8;
+        end = next_end(item, k, end)?;
+        out.give(&(end as u64).to_le_bytes())?;
     }
     Ok(())
 }
@@ -68,18 +90,16 @@ fn write_words<A: AsBytes, W: WriteBytes>(
     item: &A,
     k: usize,
     bytes: usize,
-    sink: &mut W,
-    piece: &mut usize,
+    out: &mut Counted<'_, W>,
 ) -> Result<(), WriteFault<W::Error>>
-    ensures { A.Index.sound item.now → WellFormed (slot (A.AsBytes.slices item.now) k) → slice_length (A.AsBytes.slices item.now) k ≡ Ok bytes → Gives W.WriteBytes.taken W.WriteBytes.room W.WriteBytes.beyond W.WriteBytes.fault piece.old (chunks 8 (words_for (slot (A.AsBytes.slices item.now) k).bytes) (contents (slot (A.AsBytes.slices item.now) k))) sink.old sink.new piece.new result }
+    requires formed { WellFormed (slot (A.AsBytes.slices item.now) k) }
+    requires known { slice_length (A.AsBytes.slices item.now) k ≡ Ok bytes }
+    ensures { Gives W.WriteBytes (chunks 8 (words_for (slot (A.AsBytes.slices item.now) k).bytes) (contents (slot (A.AsBytes.slices item.now) k))) out.old out.new result }
 {
-    for i in 0..bytes.saturating_add(7) / 8 {
-        let word = match item.slice_word(k, i) {
-            Ok(word) => word.to_le_bytes(),
-            Err(fault) => return Err(WriteFault::TooLong(fault)),
-        };
+    for i in 0..bytes.div_ceil(8) {
+        let word = item.slice_word(k, i)?.to_le_bytes();
         let left = bytes - 8 * i;
-        give(sink, &word[..left.min(8)], piece)?;
+        out.give(&word[..left.min(8)])?;
     }
     Ok(())
 }
@@ -88,48 +108,44 @@ fn write_words<A: AsBytes, W: WriteBytes>(
 fn write_slice<A: AsBytes, W: WriteBytes>(
     item: &A,
     k: usize,
-    sink: &mut W,
-    piece: &mut usize,
+    out: &mut Counted<'_, W>,
 ) -> Result<(), WriteFault<W::Error>>
-    ensures { A.Index.sound item.now → WellFormed (slot (A.AsBytes.slices item.now) k) → slice_length (A.AsBytes.slices item.now) k ≡ Ok (slot (A.AsBytes.slices item.now) k).bytes → Gives W.WriteBytes.taken W.WriteBytes.room W.WriteBytes.beyond W.WriteBytes.fault piece.old (slice_pieces (slot (A.AsBytes.slices item.now) k)) sink.old sink.new piece.new result }
+    requires formed { WellFormed (slot (A.AsBytes.slices item.now) k) }
+    requires known { slice_length (A.AsBytes.slices item.now) k ≡ Ok (slot (A.AsBytes.slices item.now) k).bytes }
+    ensures { Gives W.WriteBytes (slice_pieces (slot (A.AsBytes.slices item.now) k)) out.old out.new result }
 {
-    let bytes = match item.slice_len(k) {
-        Ok(bytes) => bytes,
-        Err(fault) => return Err(WriteFault::TooLong(fault)),
-    };
-    write_words(item, k, bytes, sink, piece)?;
+    let bytes = item.slice_len(k)?;
+    write_words(item, k, bytes, out)?;
     let cut = bytes % 8;
     if cut == 0 {
         return Ok(());
     }
     let zeros = [0u8; 8];
-    give(sink, &zeros[cut..], piece)
+    out.give(&zeros[cut..])
 }
 
 // Gives the slices.
 fn write_slices<A: AsBytes, W: WriteBytes>(
     item: &A,
-    sink: &mut W,
-    piece: &mut usize,
+    out: &mut Counted<'_, W>,
 ) -> Result<(), WriteFault<W::Error>>
-    ensures { A.Index.sound item.now → length (image (A.AsBytes.slices item.now)) ≤ CAP → Gives W.WriteBytes.taken W.WriteBytes.room W.WriteBytes.beyond W.WriteBytes.fault piece.old (flat_map slice_pieces (A.AsBytes.slices item.now)) sink.old sink.new piece.new result }
+    requires short { length (image (A.AsBytes.slices item.now)) ≤ CAP }
+    ensures { Gives W.WriteBytes (flat_map slice_pieces (A.AsBytes.slices item.now)) out.old out.new result }
 {
     for k in 0..item.slices() {
-        write_slice(item, k, sink, piece)?;
+        write_slice(item, k, out)?;
     }
     Ok(())
 }
 
 // Gives `sink` the image of `item`. A refusal leaves the pieces before the refused one.
 pub fn write<A: AsBytes, W: WriteBytes>(item: &A, sink: &mut W) -> Result<(), WriteFault<W::Error>>
-    ensures { A.Index.sound item.now → Written W.WriteBytes.taken W.WriteBytes.room W.WriteBytes.beyond W.WriteBytes.fault (A.AsBytes.slices item.now) sink.old sink.new result }
+    ensures { Written W.WriteBytes (A.AsBytes.slices item.now) sink.old sink.new result }
 {
-    if let Err(fault) = length_in_words(item) {
-        return Err(WriteFault::TooLong(fault));
-    }
-    let mut piece = 0;
-    write_index(item, sink, &mut piece)?;
-    write_slices(item, sink, &mut piece)
+    length_in_words(item)?;
+    let mut out = Counted { sink, piece: 0 };
+    write_index(item, &mut out)?;
+    write_slices(item, &mut out)
 }
 
 // Gives `sink` the words of a store one by one. A refusal leaves the words before the refused one.
@@ -137,15 +153,14 @@ pub fn write_store<S: Store, W: WriteBytes>(
     store: &S,
     sink: &mut W,
 ) -> Result<(), WriteFault<W::Error>>
-    ensures { Given W.WriteBytes.taken W.WriteBytes.room W.WriteBytes.beyond W.WriteBytes.fault (map (digits 256 8) (S.Store.words store.now)) sink.old sink.new result }
+    ensures { Given W.WriteBytes (map (digits 256 8) (S.Store.words store.now)) sink.old sink.new result }
 {
-    let mut piece = 0;
+    let mut out = Counted { sink, piece: 0 };
     for i in 0..store.count() {
-        let word = match store.word(i) {
-            Some(word) => word.to_le_bytes(),
-            None => return Ok(()),
+        let Some(word) = store.word(i) else {
+            return Ok(());
         };
-        give(sink, &word, &mut piece)?;
+        out.give(&word.to_le_bytes())?;
     }
     Ok(())
 }

@@ -5,7 +5,7 @@ ghost use Rattle.kinds.specs.Kinds.{bytes_admission, card_admission, check_answe
 
 use crate::kinds::{BlockTable, CardKind, EraseMap, SpareCount};
 use area::fault::Fault;
-use column::kind::Kind;
+use column::kind::{Index, Kind};
 use read::form::FromBytes;
 use read::validate::validate;
 use storage::store::{ByteArea, Store};
@@ -14,8 +14,7 @@ use storage::store::{ByteArea, Store};
 fn admitted_len<K: FromBytes, S: Store>(store: &S) -> Result<usize, Fault>
     ensures { result ≡ length_answer (admission K.Kind.format (S.Store.words store.now)) }
 {
-    let form = validate::<K, S>(store)?;
-    Ok(K::form_len(&form))
+    Ok(validate::<K, &S>(store)?.view().len())
 }
 
 // The same for a kind of the card.
@@ -29,16 +28,15 @@ pub fn admit<S: Store>(kind: CardKind, store: &S) -> Result<usize, Fault>
     }
 }
 
-// The same for the kind of a number, which is asked for before the bytes are looked at.
+// The same for the kind of a number, as C gives it, which is asked for before the bytes are looked at.
 pub fn admit_bytes(kind: u32, bytes: &[u8]) -> Result<usize, Fault>
     ensures { result ≡ numbered_admission kind bytes.now }
 {
-    let kind = CardKind::numbered(kind)?;
-    let store = ByteArea::new(bytes)?;
-    admit(kind, &store)
+    let kind = CardKind::try_from(kind)?;
+    admit(kind, &ByteArea::new(bytes)?)
 }
 
-// 0 where the bytes are admitted, or else the number of the refusal.
+// 0 where the bytes are admitted, or else the number of the refusal: what C is answered.
 pub fn check_image(kind: u32, bytes: &[u8]) -> u32
     ensures { result ≡ check_answer kind bytes.now }
 {

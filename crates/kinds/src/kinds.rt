@@ -16,28 +16,26 @@ pub type EraseMap<'a> = Bools<Strides<'a>>;
 // How many spare blocks there are.
 pub type SpareCount = Empties;
 
-// The kinds by name.
+// The kinds by name, with their numbers.
 #[derive(Clone, Copy, PartialEq, Eq, Debug)]
 pub enum CardKind {
-    BlockTable,
-    EraseMap,
-    SpareCount,
+    BlockTable = 1,
+    EraseMap = 2,
+    SpareCount = 3,
 }
 
-impl CardKind {
-    // The kind of this number: 1 block table, 2 erase map, 3 spare count. 17 for any other.
-    pub fn numbered(number: u32) -> Result<CardKind, Fault>
-        ensures { result ≡ kind_numbered number }
-    {
-        if number == 1 {
-            return Ok(CardKind::BlockTable);
+impl TryFrom<u32> for CardKind {
+    type Error = Fault;
+
+    ghost try_from_gives = { λ number kind. kind ≡ kind_numbered number };
+
+    // 17 for a number of no kind.
+    fn try_from(number: u32) -> Result<CardKind, Fault> {
+        match number {
+            1 => Ok(CardKind::BlockTable),
+            2 => Ok(CardKind::EraseMap),
+            3 => Ok(CardKind::SpareCount),
+            _ => Err(Fault::at_start(Refusal::UnknownRecord)),
         }
-        if number == 2 {
-            return Ok(CardKind::EraseMap);
-        }
-        if number == 3 {
-            return Ok(CardKind::SpareCount);
-        }
-        Err(Fault::at_start(Refusal::UnknownRecord))
     }
 }

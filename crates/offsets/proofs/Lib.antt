@@ -1,3 +1,2 @@
 pub mod FormLemmas
-pub mod StridesLaws
 pub mod StridesLemmas

@@ -10,6 +10,6 @@ strides_slices t ws = slice_in ws t.place ∷ slice_in ws t.bounds ∷ []
 
 pub record StridesKept (t : StridesForm) (ws : List ℕ) : Type 0 where
   pub inside : Inside ws t.place
-  pub stride : t.stride ≡ word_of (slice_in ws t.place) 0
-  pub length : t.length ≡ word_of (slice_in ws t.place) 1
+  pub stride : t.head.stride ≡ word_of (slice_in ws t.place) 0
+  pub length : t.head.length ≡ word_of (slice_in ws t.place) 1
   pub bounds : Inside ws t.bounds

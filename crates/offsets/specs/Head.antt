@@ -1,7 +1,6 @@
 -- The head of strides: (stride, length) stands for stride, 2 × stride, .. length × stride.
-use Rattle.std.specs.Prelude.{◌≡◌, ℕ, ◌+◌, ◌*◌, ◌^◌, ◌<◌, Bool, false, cond, ◌&&◌, List, map, Some, None, Option, nat_eq, nat_lt}
+use Rattle.std.specs.Prelude.{ℕ, ◌+◌, ◌*◌, ◌^◌, Bool, false, cond, ◌&&◌, List, ◌++◌, map, Some, None, Option, nat_eq, nat_lt}
 use Rattle.std.specs.List.{range_with_len}
-use Rattle.offsets.specs.declared.head.Head.{Head}
 
 -- s, 2 × s, .. n × s
 abbrev pub multiples : ℕ → ℕ → List ℕ
@@ -14,7 +13,6 @@ following_multiple s n = cond (nat_lt (n + 1) (2 ^ 64) && nat_lt (s * (n + 1)) (
 abbrev pub is_next : ℕ → ℕ → ℕ → Bool
 is_next s n x = elim (following_multiple s n) [ Some m ↦ nat_eq m x | None ↦ false ]
 
--- every head that a column keeps
-pub record HeadKept (h : Head) : Type 0 where
-  pub product : h.stride * h.length < 2 ^ 64
-  pub cleared : h.length ≡ 0 → h.stride ≡ 0
+-- the list that a head and the bounds after it stand for
+abbrev pub strides_list : ℕ → ℕ → List ℕ → List ℕ
+strides_list s n bs = multiples s n ++ bs

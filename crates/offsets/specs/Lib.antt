@@ -1,3 +1,4 @@
 pub mod Head
 pub mod Strides
+pub mod StridesLaws
 pub mod Form

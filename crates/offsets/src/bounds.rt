@@ -7,7 +7,7 @@ use column::kind::Index;
 
 // Element `i` - 1, or 0 before the first, and element `i`, of a column or of a read form.
 pub fn bounds<R: Index<Item = u64>>(ends: &R, i: usize) -> Result<(u64, u64), Fault>
-    ensures { R.Index.sound ends.now → result ≡ bounds_at (R.Index.list ends.now) i }
+    ensures { result ≡ bounds_at (R.Index.list ends.now) i }
 {
     let upper = ends.get(i)?;
     if i == 0 {

@@ -1,61 +1,80 @@
-// The read form of strides: the place of the head and its numbers, and the form of the bounds.
-ghost use Rattle.std.specs.Prelude.{◌≡◌, ℕ, List, [], ◌∷◌, ◌++◌, length, None};
-ghost use Rattle.column.specs.Column.{element, slice_length, word_in_slice};
+// The read form of strides: the place of the head, its numbers, and the place of the bounds.
+ghost use Rattle.std.specs.Prelude.{◌≡◌, ℕ, List, length, None};
+ghost use Rattle.std.proofs.Props.{props};
 ghost use Rattle.column.specs.Run.{word_run};
-ghost use Rattle.decode.specs.Decode.{Inside, slice_in};
-ghost use Rattle.read.specs.Form.{Stands, There, form_answer, list_of, size_answer, slices_within, words_in};
+ghost use Rattle.read.specs.Form.{FormAnswer, Stands, There, list_of, size_answer, slices_within};
 ghost use Rattle.offsets.specs.Strides.{strides_format};
 ghost use Rattle.offsets.specs.Form.{StridesKept, strides_slices};
 
+use crate::head::Head;
 use crate::strides::Strides;
 use area::fault::{Fault, Refusal};
-use column::kind::{Kind, MAX_LEN};
+use column::kind::{AsBytes, Kind, MAX_LEN};
 use column::run::Run;
 use decode::decoded::DecodedStore;
 use decode::span::Span;
-use read::form::FromBytes;
+use read::form::{FromBytes, ReadForm};
+use read::view::View;
+use std::marker::PhantomData;
 use storage::store::Store;
 
-// The place of the head, its stride and length, and the place of the bounds.
 #[derive(Clone, Copy)]
 pub struct StridesForm {
     place: Span,
-    stride: u64,
-    length: u64,
+    head: Head,
     bounds: Span,
 }
 
-impl<'a> FromBytes for Strides<'a> {
+impl<'a> ReadForm for Strides<'a> {
     type Form = StridesForm;
 
     ghost slices = { λ t ws. strides_slices t ws };
 
     ghost kept = { λ t ws. StridesKept t ws };
 
+    ghost kept_prop = { λ t ws. Prim.hlevel props };
+}
+
+// The bounds, as a view of a run.
+fn bounds_of<'a, 'f, 's, S: Store>(
+    view: &View<'f, 's, Strides<'a>, S>,
+) -> View<'f, 's, Run<'a, u64>, S>
+    ensures form { result.form.now ≡ view.now.form.now.bounds }
+    ensures store { result.store.now ≡ view.now.store.now }
+{
+    View {
+        form: &view.form.bounds,
+        store: view.store,
+        of: PhantomData,
+    }
+}
+
+// The clauses of `sized`, `form` and `form_len` are written out: no argument shows the type.
+impl<'a> FromBytes for Strides<'a> {
     fn sized<S: Store>(image: &DecodedStore<S>, at: usize) -> Result<(), Fault>
-        ensures { There S.Store.words image.now at 2 → result ≡ size_answer at ((strides_format word_run).sized (slices_within S.Store.words image.now at 2)) }
+        ensures { There (S.Store.words image.now.store) at 2 → result ≡ size_answer at ((strides_format word_run).sized (slices_within (S.Store.words image.now.store) at 2)) }
     {
         if image.get(at)?.words() < 2 {
             return Err(Fault::at(Refusal::SliceSize, at));
         }
-        Run::<u64>::sized(image, at.saturating_add(1))
+        Run::<u64>::sized(image, at + 1)
     }
 
     fn form<S: Store>(image: &DecodedStore<S>, at: usize) -> Result<StridesForm, Fault>
-        ensures { There S.Store.words image.now at 2 → (strides_format word_run).sized (slices_within S.Store.words image.now at 2) ≡ None → form_answer strides_slices StridesKept (words_in S.Store.words image.now) (slices_within S.Store.words image.now at 2) at ((strides_format word_run).reading (slices_within S.Store.words image.now at 2)) result }
+        ensures { There (S.Store.words image.now.store) at 2 → (strides_format word_run).sized (slices_within (S.Store.words image.now.store) at 2) ≡ None → FormAnswer strides_slices StridesKept (S.Store.words image.now.store) (slices_within (S.Store.words image.now.store) at 2) at ((strides_format word_run).reading (slices_within (S.Store.words image.now.store) at 2)) result }
     {
-        let bounds = Run::<u64>::form(image, at.saturating_add(1))?;
         let place = image.get(at)?;
+        let bounds = Run::<u64>::form(image, at + 1)?;
         let stride = place.word(image.store(), 0)?;
         let length = place.word(image.store(), 1)?;
-        let count = (length as usize).saturating_add(Run::<u64>::form_len(&bounds));
+        let head = Head { stride, length };
+        let count = head.len(Run::<u64>::form_len(&bounds));
         if stride.checked_mul(length).is_none() || count > MAX_LEN {
             return Err(Fault::at(Refusal::SliceContent, at));
         }
         Ok(StridesForm {
             place,
-            stride,
-            length,
+            head,
             bounds,
         })
     }
@@ -63,39 +82,31 @@ impl<'a> FromBytes for Strides<'a> {
     fn form_len(form: &StridesForm) -> usize
         ensures { (ws : List ℕ) → Stands strides_slices StridesKept (strides_format word_run) form.now ws → result ≡ length (list_of (strides_format word_run) (strides_slices form.now ws)) }
     {
-        (form.length as usize).saturating_add(Run::<u64>::form_len(&form.bounds))
+        form.head.len(Run::<u64>::form_len(&form.bounds))
     }
 
-    fn form_get<S: Store>(form: &StridesForm, store: &S, i: usize) -> Result<u64, Fault>
-        ensures { Stands strides_slices StridesKept (strides_format word_run) form.now (S.Store.words store.now) → result ≡ element (list_of (strides_format word_run) (strides_slices form.now (S.Store.words store.now))) i }
-    {
-        let length = form.length as usize;
-        if i < length {
-            return Ok(form.stride.wrapping_mul(i as u64 + 1));
-        }
-        Run::<u64>::form_get(&form.bounds, store, i - length)
+    fn view_get<S: Store>(view: &View<'_, '_, Strides<'a>, S>, i: usize) -> Result<u64, Fault> {
+        view.form.head.get(&bounds_of(view), i)
     }
 
-    fn form_slice_len(form: &StridesForm, k: usize) -> Result<usize, Fault>
-        ensures { (ws : List ℕ) → Stands strides_slices StridesKept (strides_format word_run) form.now ws → result ≡ slice_length ((strides_format word_run).giving (strides_slices form.now ws)) k }
-    {
+    fn view_slice_len<S: Store>(
+        view: &View<'_, '_, Strides<'a>, S>,
+        k: usize,
+    ) -> Result<usize, Fault> {
         if k > 0 {
-            return Run::<u64>::form_slice_len(&form.bounds, k - 1);
+            return bounds_of(view).slice_len(k - 1);
         }
-        Ok(form.place.words().saturating_mul(8))
+        Ok(8 * view.form.place.words())
     }
 
-    fn form_slice_word<S: Store>(
-        form: &StridesForm,
-        store: &S,
+    fn view_slice_word<S: Store>(
+        view: &View<'_, '_, Strides<'a>, S>,
         k: usize,
         i: usize,
-    ) -> Result<u64, Fault>
-        ensures { Stands strides_slices StridesKept (strides_format word_run) form.now (S.Store.words store.now) → result ≡ word_in_slice ((strides_format word_run).giving (strides_slices form.now (S.Store.words store.now))) k i }
-    {
+    ) -> Result<u64, Fault> {
         if k > 0 {
-            return Run::<u64>::form_slice_word(&form.bounds, store, k - 1, i);
+            return bounds_of(view).slice_word(k - 1, i);
         }
-        form.place.word(store, i)
+        view.form.place.word(view.store, i)
     }
 }

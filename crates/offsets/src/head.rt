@@ -1,7 +1,12 @@
-// The head that a column of strides keeps: it stands for stride, 2 × stride, .. length × stride. What a kept head
-// keeps to is `HeadKept`: a product below 2^64, and stride 0 whenever the length is 0.
-ghost use Rattle.std.specs.Prelude.{◌≡◌};
-ghost use Rattle.offsets.specs.Head.{following_multiple};
+// The head of strides: it stands for stride, 2 × stride, .. length × stride. That these fit a word is said by the column
+// that keeps it, and by the read form's view: with a ghost field of its own beside the column's `&mut`, no pair could hold
+// the column.
+ghost use Rattle.std.specs.Prelude.{◌≡◌, ◌+◌, ◌-◌, ◌*◌, ◌^◌, ◌<◌, min};
+ghost use Rattle.column.specs.Column.{element};
+ghost use Rattle.offsets.specs.Head.{following_multiple, strides_list};
+
+use area::fault::Fault;
+use column::kind::Index;
 
 #[derive(Clone, Copy)]
 pub struct Head {
@@ -24,9 +29,25 @@ impl Head {
     pub(crate) fn next(self) -> Option<u64>
         ensures { result ≡ following_multiple self.stride self.length }
     {
-        if self.length == u64::MAX {
-            return None;
+        self.stride.checked_mul(self.length.checked_add(1)?)
+    }
+
+    // The length of the list that the head and so many bounds after it stand for, or 2^64 - 1 where it is longer.
+    pub(crate) fn len(self, bounds: usize) -> usize
+        ensures { result ≡ min (self.length + bounds) (2 ^ 64 - 1) }
+    {
+        (self.length as usize).saturating_add(bounds)
+    }
+
+    // The element at place `i` of the list that the head and the bounds after it stand for.
+    pub(crate) fn get<R: Index<Item = u64>>(self, bounds: &R, i: usize) -> Result<u64, Fault>
+        requires { self.stride * self.length < 2 ^ 64 }
+        ensures { result ≡ element (strides_list self.stride self.length (R.Index.list bounds.now)) i }
+    {
+        let length = self.length as usize;
+        if i < length {
+            return Ok(self.stride * (i as u64 + 1));
         }
-        self.stride.checked_mul(self.length + 1)
+        bounds.get(i - length)
     }
 }

@@ -6,7 +6,6 @@ use Rattle.area.specs.declared.fault.Fault.{Fault}
 use Rattle.area.specs.declared.fault.Refusal.TheVariants.{SliceSize, SliceContent}
 use Rattle.column.specs.Kind.{Format, Reading, reads, refuses}
 use Rattle.decode.specs.Decode.{slices_of, structure_fault}
-use Rattle.read.specs.Form.{Stands, list_of}
 
 -- question 9
 abbrev pub content_answer : {E : Type 0} → Reading E → Result (List E) Fault
@@ -21,8 +20,9 @@ read_answer F ss = elim (F.sized ss) [ None ↦ content_answer (F.reading ss) | 
 abbrev pub admission : {E : Type 0} → Format E → List ℕ → Result (List E) Fault
 admission F ws = elim (structure_fault (Some F.slots) ws) [ None ↦ read_answer F (slices_of ws) | Some f ↦ Err f ]
 
--- an admitted image is answered by a form of all its slices
-module _ {E Form : Type 0} (slices : Form → List ℕ → List Slice) (kept : Form → List ℕ → Type 0) where
-  abbrev pub admitted : Format E → List ℕ → Result Form Fault → Type 0
-  admitted F ws (Ok t) = Stands slices kept F t ws × ((slices t ws ≡ slices_of ws) × (admission F ws ≡ Ok (list_of F (slices t ws))))
-  admitted F ws (Err e) = admission F ws ≡ Err e
+-- a store is admitted with the list that its words have, or refused with the first question that they fail; f says which
+-- words a store has, and store and list what was admitted
+module _ {E S A : Type 0} (F : Format E) (f : S → List ℕ) (store : A → S) (list : A → List E) where
+  abbrev pub Admits : S → Result A Fault → Type 0
+  Admits s (Ok a) = (store a ≡ s) × (admission F (f s) ≡ Ok (list a))
+  Admits s (Err e) = admission F (f s) ≡ Err e

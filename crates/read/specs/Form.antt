@@ -1,13 +1,14 @@
 -- Read forms: they keep the places of accepted slices, are lent the store, and stand for the list that these read as.
-use Rattle.std.specs.Prelude.{◌≡◌, ℕ, ◌+◌, ◌*◌, ◌≤◌, List, [], length, take, drop, Some, None, Ok, Err, Option, Result}
+use Rattle.std.specs.Prelude.{◌≡◌, ℕ, ◌+◌, ◌*◌, ◌≤◌, Bool, true, false, List, [], length, take, drop, Some, None, Ok, Err, Option, Result}
+use Rattle.std.specs.List.{AllByRecursion}
+use Rattle.std.proofs.Props.{props}
 use Rattle.area.specs.Fault.{refuse}
-use Rattle.area.specs.Slice.{Slice, spill}
+use Rattle.area.specs.Slice.{Slice, WellFormed, spill}
 use Rattle.area.specs.declared.fault.Fault.{Fault}
 use Rattle.area.specs.declared.fault.Refusal.TheVariants.{SliceSize, SliceContent}
 use Rattle.column.specs.Element.{Codec}
-use Rattle.column.specs.Kind.{Accepted, Format, Reading, reads, refuses}
-use Rattle.decode.specs.Decode.{DecodedSound, slices_of}
-use Rattle.decode.specs.declared.decoded.DecodedStore.{DecodedStore}
+use Rattle.column.specs.Kind.{Format, Reading, reads, refuses}
+use Rattle.decode.specs.Decode.{slices_of}
 
 -- the list that slices read as
 abbrev pub list_of : {E : Type 0} → Format E → List Slice → List E
@@ -22,29 +23,40 @@ abbrev pub size_answer : ℕ → Option ℕ → Result (Unit {0}) Fault
 size_answer a None = Ok tt
 size_answer a (Some k) = Err (refuse SliceSize (a + k))
 
--- the slices of a store whose index was looked at; f says which words a store has
-module _ {S : Type 0} (f : S → List ℕ) where
-  abbrev pub words_in : DecodedStore S → List ℕ
-  words_in d = f d.store.now
+-- n of the slices of words, from number a on
+abbrev pub slices_within : List ℕ → ℕ → ℕ → List Slice
+slices_within ws a n = take n (drop a (slices_of ws))
 
-  -- n of them, from number a on
-  abbrev pub slices_within : DecodedStore S → ℕ → ℕ → List Slice
-  slices_within d a n = take n (drop a (slices_of (words_in d)))
+-- that there are these n
+abbrev pub There : List ℕ → ℕ → ℕ → Type 0
+There ws a n = a + n ≤ length (slices_of ws)
 
-  pub record There (d : DecodedStore S) (a n : ℕ) : Type 0 where
-    pub decoded : DecodedSound f d
-    pub enough : a + n ≤ length (slices_of (words_in d))
+abbrev pub is_read : {E : Type 0} → Reading E → Bool
+is_read (reads xs) = true
+is_read (refuses k) = false
+
+-- Slices that are accepted, whatever they read as. `Accepted` of what they read as follows; said by a test of the reading,
+-- this has one proof at most, so that a type can keep it.
+pub record Passed {E : Type 0} (F : Format E) (ss : List Slice) : Type 0 where
+  pub count : length ss ≡ F.slots
+  pub formed : AllByRecursion WellFormed ss
+  pub fitting : F.sized ss ≡ None
+  pub read : is_read (F.reading ss) ≡ true
 
 -- forms that stand for slices of words, and keep to something over these words
 module _ {E Form : Type 0} (slices : Form → List ℕ → List Slice) (kept : Form → List ℕ → Type 0) where
   -- a form of accepted slices
   pub record Stands (F : Format E) (t : Form) (ws : List ℕ) : Type 0 where
     pub keeps : kept t ws
-    pub accepted : Accepted F (slices t ws) (list_of F (slices t ws))
+    pub passed : Passed F (slices t ws)
+
+  -- where any two proofs of what is kept are equal
+  pub Stands-prop : ((t : Form) (ws : List ℕ) → IsProp (kept t ws)) → (F : Format E) (t : Form) (ws : List ℕ) → IsProp (Stands F t ws)
+  Stands-prop once F t ws = hlevel (props, once)
 
   -- question 9 of slices ss, of which the first has number a: the form of what can be read
-  abbrev pub form_answer : List ℕ → List Slice → ℕ → Reading E → Result Form Fault → Type 0
-  form_answer ws ss a (reads xs) (Ok t) = kept t ws × (slices t ws ≡ ss)
-  form_answer ws ss a (reads xs) (Err e) = ⊥
-  form_answer ws ss a (refuses k) (Ok t) = ⊥
-  form_answer ws ss a (refuses k) (Err e) = e ≡ refuse SliceContent (a + k)
+  abbrev pub FormAnswer : List ℕ → List Slice → ℕ → Reading E → Result Form Fault → Type 0
+  FormAnswer ws ss a (reads xs) (Ok t) = kept t ws × (slices t ws ≡ ss)
+  FormAnswer ws ss a (reads xs) (Err e) = ⊥
+  FormAnswer ws ss a (refuses k) (Ok t) = ⊥
+  FormAnswer ws ss a (refuses k) (Err e) = e ≡ refuse SliceContent (a + k)

@@ -1,5 +1,6 @@
 // Elements of runs, read from a store.
 ghost use Rattle.std.specs.Prelude.{◌≡◌, suc, ◌+◌, ◌*◌, ◌≤◌, length, Some};
+ghost use Rattle.storage.specs.Store.{word_at};
 ghost use Rattle.read.specs.Form.{element_at};
 
 use column::element::{Element, Value};
@@ -12,23 +13,25 @@ pub trait Stored: Element {
         ensures { 8 * from + Self.Element.codec.size * suc i ≤ 8 * length (S.Store.words store.now) → result ≡ Some (element_at Self.Element.codec (S.Store.words store.now) from i) };
 }
 
+// Word `i` from word `from` on; none past the store's end.
+fn word_from<S: Store>(store: &S, from: usize, i: usize) -> Option<u64>
+    ensures { result ≡ word_at (S.Store.words store.now) (from + i) }
+{
+    if from >= store.count() {
+        return None;
+    }
+    store.word(from.saturating_add(i))
+}
+
 impl Stored for u64 {
     fn read<S: Store>(store: &S, from: usize, i: usize) -> Option<u64> {
-        if from >= store.count() {
-            return None;
-        }
-        store.word(from.saturating_add(i))
+        word_from(store, from, i)
     }
 }
 
 impl Stored for u8 {
     fn read<S: Store>(store: &S, from: usize, i: usize) -> Option<u8> {
-        if from >= store.count() {
-            return None;
-        }
-        match store.word(from.saturating_add(i / 8)) {
-            Some(word) => Some((word >> (8 * (i % 8)) & 0xff) as u8),
-            None => None,
-        }
+        let word = word_from(store, from, i / 8)?;
+        Some(word.to_le_bytes()[i % 8])
     }
 }

@@ -1,9 +1,11 @@
 // The read form of a run: the place of its slice.
 ghost use Rattle.std.specs.Prelude.{◌≡◌, ℕ, ◌/◌, List, [], ◌∷◌};
+ghost use Rattle.std.proofs.Props.{props};
 ghost use Rattle.decode.specs.Decode.{Inside, slice_in};
 
 use crate::element::Stored;
-use crate::form::FromBytes;
+use crate::form::{FromBytes, ReadForm};
+use crate::view::View;
 use area::fault::{Fault, Refusal};
 use column::element::Element;
 use column::kind::{Kind, MAX_LEN};
@@ -16,24 +18,23 @@ use storage::store::Store;
 fn count_in<T: Element>(bytes: usize) -> usize
     ensures { result ≡ bytes / T.Element.codec.size }
 {
-    let size = T::size();
-    if size == 0 {
-        return 0;
-    }
-    bytes / size
+    bytes / T::size()
 }
 
-impl<'a, T: Stored> FromBytes for Run<'a, T> {
+impl<'a, T: Stored> ReadForm for Run<'a, T> {
     type Form = Span;
 
     ghost slices = { λ s ws. slice_in ws s ∷ [] };
 
     ghost kept = { λ s ws. Inside ws s };
 
+    ghost kept_prop = { λ s ws. Prim.hlevel props };
+}
+
+impl<'a, T: Stored> FromBytes for Run<'a, T> {
     fn sized<S: Store>(image: &DecodedStore<S>, at: usize) -> Result<(), Fault> {
         let span = image.get(at)?;
-        let size = T::size();
-        if size == 0 || span.bytes % size != 0 {
+        if span.bytes % T::size() != 0 {
             return Err(Fault::at(Refusal::SliceSize, at));
         }
         Ok(())
@@ -51,30 +52,34 @@ impl<'a, T: Stored> FromBytes for Run<'a, T> {
         count_in::<T>(form.bytes)
     }
 
-    fn form_get<S: Store>(form: &Span, store: &S, i: usize) -> Result<T, Fault> {
-        if i >= count_in::<T>(form.bytes) {
+    fn view_get<S: Store>(view: &View<'_, '_, Run<'a, T>, S>, i: usize) -> Result<T, Fault> {
+        if i >= count_in::<T>(view.form.bytes) {
             return Err(Fault::at_start(Refusal::OutOfRange));
         }
-        match T::read(store, form.from, i) {
-            Some(x) => Ok(x),
-            None => Err(Fault::at_start(Refusal::OutOfRange)),
-        }
+        T::read(view.store, view.form.from, i).ok_or(Fault::at_start(Refusal::OutOfRange))
     }
 
-    fn form_slice_len(form: &Span, k: usize) -> Result<usize, Fault> {
+    fn view_slice_len<S: Store>(
+        view: &View<'_, '_, Run<'a, T>, S>,
+        k: usize,
+    ) -> Result<usize, Fault> {
         if k > 0 {
             return Err(Fault::at_start(Refusal::OutOfRange));
         }
-        Ok(form.bytes)
+        Ok(view.form.bytes)
     }
 
     // Bytes of the last word past the slice's end are given as 0.
-    fn form_slice_word<S: Store>(form: &Span, store: &S, k: usize, i: usize) -> Result<u64, Fault> {
+    fn view_slice_word<S: Store>(
+        view: &View<'_, '_, Run<'a, T>, S>,
+        k: usize,
+        i: usize,
+    ) -> Result<u64, Fault> {
         if k > 0 {
             return Err(Fault::at_start(Refusal::OutOfRange));
         }
-        let word = form.word(store, i)?;
-        let left = form.bytes.saturating_sub(i.saturating_mul(8));
+        let word = view.form.word(view.store, i)?;
+        let left = view.form.bytes - 8 * i;
         if left >= 8 {
             return Ok(word);
         }

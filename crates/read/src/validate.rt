@@ -1,18 +1,51 @@
 // Admission of any store for any kind.
-ghost use Rattle.std.specs.Prelude.{◌≡◌};
-ghost use Rattle.read.specs.Admission.{admitted};
+ghost use Rattle.std.specs.Prelude.{◌≡◌, Some, None};
+ghost use Rattle.decode.specs.Decode.{slices_of, structure_fault};
+ghost use Rattle.read.specs.Admission.{Admits};
+ghost use Rattle.read.specs.Form.{Stands, Stands-prop, list_of};
 
-use crate::form::FromBytes;
+use crate::form::{FromBytes, ReadForm};
+use crate::view::View;
 use area::fault::Fault;
 use column::kind::Kind;
 use decode::decoded::DecodedStore;
+use std::marker::PhantomData;
 use storage::store::Store;
 
-// The read form of an image that passes questions 1 to 9, or the first that it fails.
-pub fn validate<K: FromBytes, S: Store>(store: &S) -> Result<K::Form, Fault>
-    ensures { admitted K.FromBytes.slices K.FromBytes.kept K.Kind.format (S.Store.words store.now) result }
+// A store that passed questions 1 to 9 of a kind, with the form of its slices.
+#[derive(Drop)]
+pub struct Admitted<K: ReadForm, S: Store> {
+    pub form: K::Form,
+    pub store: S,
+    pub of: PhantomData<K>,
+    pub ghost stands: { Stands K.ReadForm.slices K.ReadForm.kept K.Kind.format form (S.Store.words store) } by { Stands-prop K.ReadForm.slices K.ReadForm.kept K.ReadForm.kept_prop K.Kind.format form (S.Store.words store) },
+    pub ghost whole: { K.ReadForm.slices form (S.Store.words store) ≡ slices_of (S.Store.words store) },
+    pub ghost asked: { structure_fault (Some K.Kind.format.slots) (S.Store.words store) ≡ None },
+}
+
+impl<K: ReadForm, S: Store> Admitted<K, S> {
+    pub fn view(&self) -> View<'_, '_, K, S>
+        ensures form { result.form.now ≡ self.now.form }
+        ensures store { result.store.now ≡ self.now.store }
+    {
+        View {
+            form: &self.form,
+            store: &self.store,
+            of: PhantomData,
+        }
+    }
+}
+
+// Asks a store questions 1 to 9, and answers the first that it fails.
+pub fn validate<K: FromBytes, S: Store + Drop>(store: S) -> Result<Admitted<K, S>, Fault>
+    ensures { Admits K.Kind.format S.Store.words (λ a. a.store) (λ a. list_of K.Kind.format (K.ReadForm.slices a.form (S.Store.words a.store))) store result }
 {
-    let image = DecodedStore::with_slices(store, K::slice_count())?;
+    let image = DecodedStore::with_slices(&store, K::slice_count())?;
     K::sized(&image, 0)?;
-    K::form(&image, 0)
+    let form = K::form(&image, 0)?;
+    Ok(Admitted {
+        form,
+        store,
+        of: PhantomData,
+    })
 }

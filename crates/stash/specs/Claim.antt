@@ -7,16 +7,16 @@ use Rattle.indexed.specs.Image.{image}
 use Rattle.read.specs.Admission.{admission}
 use Rattle.stash.specs.History.{History, Table}
 
-module _ {E : Type 0} (fits : E → Bool) (F : Format E) where
-  -- the image of a list
-  abbrev pub image_of : List E → List ℕ
-  image_of xs = image (F.writing xs)
+-- the image of a list
+abbrev pub image_of : {E : Type 0} → Format E → List E → List ℕ
+image_of F xs = image (F.writing xs)
 
+module _ {E : Type 0} (fits : E → Bool) (F : Format E) where
   -- A converted table: a history that records xs, a `make_typed` and a write that were accepted, and so an image ws of the
   -- column that holds xs. The column takes by t.
   pub record Converted (t : Areas → List E → E → Bool) (T : Table E) (xs : List E) (ws : List ℕ) : Type 0 where
     pub history : History F t fits T xs
-    pub image : ws ≡ image_of xs
+    pub image : ws ≡ image_of F xs
     pub short : length ws ≤ CAP
 
   pub record Claim (xs : List E) (ws : List ℕ) : Type 0 where

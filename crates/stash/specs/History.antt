@@ -47,8 +47,8 @@ abbrev pub if_ok : {X Y : Type 0} → Result X Fault → Y → Y → Y
 if_ok (Ok x) y z = y
 if_ok (Err f) y z = z
 
--- tables of a kind F in columns that take by t
-module _ {E : Type 0} (F : Format E) (t : Areas → List E → E → Bool) where
+-- tables of a kind F
+module _ {E : Type 0} (F : Format E) where
   -- the list that words are admitted with
   abbrev pub reads : List ℕ → List E
   reads ws = elim (admission F ws) [ Ok xs ↦ xs | Err f ↦ [] ]
@@ -58,28 +58,6 @@ module _ {E : Type 0} (F : Format E) (t : Areas → List E → E → Bool) where
   holds (typed a xs) = xs
   holds (bytes ws) = reads ws
   holds (align ws) = reads ws
-
-  -- whether a column with these areas takes a whole list
-  abbrev pub takes_all : Areas → List E → Bool
-  takes_all b xs = (taken (t b) [] xs) == length xs
-
-  -- What a call is answered. 13 where it acts on Typed tables only and this is none.
-  abbrev pub answer : Table E → Call E → Result (Unit {0}) Fault
-  answer T (push x) = on_typed T (Err (refuse NotTyped 0)) (λ a xs. push_answer (t a xs x))
-  answer T (append ys i j) = on_typed T (Err (refuse NotTyped 0)) (λ a xs. range_answer (t a) xs ys i j)
-  answer T clear = on_typed T (Err (refuse NotTyped 0)) (λ a xs. Ok tt)
-  answer T (typed_answer b) = on_typed T (append_answer (t b) [] (holds T)) (λ a xs. Ok tt)
-  answer T (store_bytes ws) = passed (admission F ws)
-  answer T (store_aligned ws) = on_aligned T (Ok tt) (passed (admission F ws))
-
-  -- The table after a call. A refused one leaves it, but for the elements that an append added before it stopped.
-  abbrev pub after : Table E → Call E → Table E
-  after T (push x) = on_typed T T (λ a xs. typed a (pushed (t a xs x) xs x))
-  after T (append ys i j) = on_typed T T (λ a xs. typed a (range_appended (t a) xs ys i j))
-  after T clear = on_typed T T (λ a xs. typed a [])
-  after T (typed_answer b) = on_typed T (cond (takes_all b (holds T)) (typed b (holds T)) T) (λ a xs. T)
-  after T (store_bytes ws) = if_ok (admission F ws) (bytes ws) T
-  after T (store_aligned ws) = on_aligned T T (if_ok (admission F ws) (align ws) T)
 
   -- What the first step of a reload writes, and that of `make_aligned`.
   abbrev pub written : Table E → List ℕ
@@ -101,9 +79,33 @@ module _ {E : Type 0} (F : Format E) (t : Areas → List E → E → Bool) where
   Undisturbed T (store_bytes ws) = ws ≡ written T
   Undisturbed T (store_aligned ws) = ws ≡ encoded T
 
-  -- how many elements a refusal says were added
-  abbrev pub added : Fault → ℕ
-  added f = cond (number_of f.refusal == number_of NotTaken) f.place 0
+-- whether a column with areas b takes a whole list; t says what it takes next
+abbrev pub takes_all : {E : Type 0} → (Areas → List E → E → Bool) → Areas → List E → Bool
+takes_all t b xs = (taken (t b) [] xs) == length xs
+
+-- how many elements a refusal says were added
+abbrev pub added : Fault → ℕ
+added f = cond (number_of f.refusal == number_of NotTaken) f.place 0
+
+-- tables of a kind F in columns that take by t
+module _ {E : Type 0} (F : Format E) (t : Areas → List E → E → Bool) where
+  -- What a call is answered. 13 where it acts on Typed tables only and this is none.
+  abbrev pub answer : Table E → Call E → Result (Unit {0}) Fault
+  answer T (push x) = on_typed T (Err (refuse NotTyped 0)) (λ a xs. push_answer (t a xs x))
+  answer T (append ys i j) = on_typed T (Err (refuse NotTyped 0)) (λ a xs. range_answer (t a) xs ys i j)
+  answer T clear = on_typed T (Err (refuse NotTyped 0)) (λ a xs. Ok tt)
+  answer T (typed_answer b) = on_typed T (append_answer (t b) [] (holds F T)) (λ a xs. Ok tt)
+  answer T (store_bytes ws) = passed (admission F ws)
+  answer T (store_aligned ws) = on_aligned T (Ok tt) (passed (admission F ws))
+
+  -- The table after a call. A refused one leaves it, but for the elements that an append added before it stopped.
+  abbrev pub after : Table E → Call E → Table E
+  after T (push x) = on_typed T T (λ a xs. typed a (pushed (t a xs x) xs x))
+  after T (append ys i j) = on_typed T T (λ a xs. typed a (range_appended (t a) xs ys i j))
+  after T clear = on_typed T T (λ a xs. typed a [])
+  after T (typed_answer b) = on_typed T (cond (takes_all t b (holds F T)) (typed b (holds F T)) T) (λ a xs. T)
+  after T (store_bytes ws) = if_ok (admission F ws) (bytes ws) T
+  after T (store_aligned ws) = on_aligned T T (if_ok (admission F ws) (align ws) T)
 
   -- The list that is recorded after a call, worked out from the call and its answer alone: an accepted push puts its
   -- element at the end, an accepted append the places of its range, an append refused with 12 as many as this carries;
@@ -121,4 +123,4 @@ module _ {E : Type 0} (F : Format E) (t : Areas → List E → E → Bool) where
   pub data History (fits : E → Bool) : Table E → List E → Type 0 where
     fresh : (a : Areas) → History fits (typed a []) []
     admitted : (ws : List ℕ) (xs : List E) → AllByRecursion (λ w. w < 2 ^ 64) ws → admission F ws ≡ Ok xs → History fits (bytes ws) xs
-    next : (T : Table E) (xs : List E) (k : Call E) → History fits T xs → Undisturbed T k → Held fits (holds (after T k)) → History fits (after T k) (recorded T xs k)
+    next : (T : Table E) (xs : List E) (k : Call E) → History fits T xs → Undisturbed F T k → Held fits (holds F (after T k)) → History fits (after T k) (recorded T xs k)

@@ -12,6 +12,7 @@ use Rattle.indexed.specs.Image.{encode_answer, encoded, image}
 use Rattle.indexed.specs.Pieces.{Given, Written, bytes_given, given, pieces}
 use Rattle.storage.specs.Store.{join_words, length_stands}
 use Rattle.storage.specs.declared.write.Full.{Full}
+use Rattle.storage.specs.declared.write.WriteBytes.{Ghosts as SinkMembers}
 use Rattle.indexed.specs.declared.write.WriteFault.{WriteFault}
 use Rattle.indexed.specs.declared.write.WriteFault.TheVariants.{TooLong, Full as NoRoomAt}
 use Rattle.stash.specs.History.{Table, after, align, answer, bytes, on_aligned, on_typed, store_aligned, store_bytes, typed}
@@ -66,9 +67,9 @@ pub record Reloads {E : Type 0} (F : Format E) (T : Table E) (before after : Lis
   pub short : has_image F T ≡ true → (r ≡ cond (given (length before) (table_pieces F T) == length (table_pieces F T)) (Ok (length (bytes_given (length before) (table_pieces F T)))) (Err (NoRoomAt (refuse NoRoom (given (length before) (table_pieces F T))) (record {})))) × (after ≡ bytes_given (length before) (table_pieces F T) ++ drop (length (bytes_given (length before) (table_pieces F T))) before)
   pub long : has_image F T ≡ false → (r ≡ Err (TooLong (refuse ImageTooLong 0))) × (after ≡ before)
 
--- a Typed table gives its image, any other the words of its store one by one
-module _ {W X : Type 0} (taken : W → List ℕ) (room : W → ℕ) (beyond : W → List ℕ) (fault : W → List ℕ → X) where
-  abbrev pub TableWritten : {E : Type 0} → Format E → Table E → W → W → Result (Unit {0}) (WriteFault X) → Type 0
-  TableWritten F (typed a xs) s t r = Written taken room beyond fault (F.writing xs) s t r
-  TableWritten F (bytes ws) s t r = Given taken room beyond fault (map (digits 256 8) ws) s t r
-  TableWritten F (align ws) s t r = Given taken room beyond fault (map (digits 256 8) ws) s t r
+-- over a sink by its members: a Typed table gives its image, any other the words of its store one by one
+module _ {W X E : Type 0} (sink : SinkMembers W X) (F : Format E) where
+  abbrev pub TableWritten : Table E → W → W → Result (Unit {0}) (WriteFault X) → Type 0
+  TableWritten (typed a xs) s t r = Written sink (F.writing xs) s t r
+  TableWritten (bytes ws) s t r = Given sink (map (digits 256 8) ws) s t r
+  TableWritten (align ws) s t r = Given sink (map (digits 256 8) ws) s t r

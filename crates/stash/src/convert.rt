@@ -1,22 +1,55 @@
 // The conversion: `make_typed`, and then a write.
-ghost use Rattle.std.specs.Prelude.{◌≡◌};
-ghost use Rattle.stash.specs.Convert.{Converts};
-ghost use Rattle.stash.specs.History.{after, typed_answer};
-ghost use Rattle.stash.specs.Stash.{Sound, table_of};
+ghost use Rattle.std.specs.Prelude.{◌≡◌, Some};
+ghost use Rattle.area.specs.Fault.{refusal_text};
+ghost use Rattle.column.specs.Kind.{Held};
+ghost use Rattle.stash.specs.Convert.{Converts, carried};
+ghost use Rattle.stash.specs.History.{after, holds, typed_answer};
+ghost use Rattle.stash.specs.Stash.{table_of};
+ghost use Rattle.stash.specs.declared.convert.ConvertFault.TheVariants.{Refused, Write};
 
 use crate::stash::Stash;
 use area::fault::Fault;
 use column::element::Value;
-use column::kind::{AsBytes, Column, Index, Kind};
+use column::kind::{Column, Index, Kind};
 use indexed::write::WriteFault;
 use read::form::FromBytes;
+use std::fmt;
 use storage::store::Store;
 use storage::write::WriteBytes;
 
 // A refused conversion: the ready column does not take the list, or the sink not the image.
+#[derive(Clone, Copy, PartialEq, Eq, Debug)]
 pub enum ConvertFault<F> {
     Refused(Fault),
     Write(WriteFault<F>),
+}
+
+impl<F> From<Fault> for ConvertFault<F> {
+    ghost from_gives = { λ fault refused. refused ≡ Refused fault };
+
+    fn from(fault: Fault) -> ConvertFault<F> {
+        ConvertFault::Refused(fault)
+    }
+}
+
+impl<F> From<WriteFault<F>> for ConvertFault<F> {
+    ghost from_gives = { λ fault refused. refused ≡ Write fault };
+
+    fn from(fault: WriteFault<F>) -> ConvertFault<F> {
+        ConvertFault::Write(fault)
+    }
+}
+
+// The refusal that it carries, as the programs print it.
+impl<F> fmt::Display for ConvertFault<F> {
+    ghost output = { λ refused. Some (refusal_text (carried refused)) };
+
+    fn fmt<W: fmt::Write>(&self, f: &mut fmt::Formatter<W>) -> fmt::Result {
+        match self {
+            ConvertFault::Refused(refusal) => write!(f, "{refusal}"),
+            ConvertFault::Write(refusal) => write!(f, "{refusal}"),
+        }
+    }
 }
 
 // Makes a table Typed in a ready column, and gives `sink` its image. This closes a history of the table.
@@ -25,16 +58,11 @@ pub fn convert<C: Column + FromBytes + Drop, B: Store + Drop, A: Store + Drop, W
     ready: C,
     sink: &mut W,
 ) -> Result<(), ConvertFault<W::Error>>
-    ensures keeps { Sound C.Index.sound C.FromBytes.slices C.FromBytes.kept C.Kind.format B.Store.words A.Store.words table.old → C.Index.sound ready → Sound C.Index.sound C.FromBytes.slices C.FromBytes.kept C.Kind.format B.Store.words A.Store.words table.new }
-    ensures after { Sound C.Index.sound C.FromBytes.slices C.FromBytes.kept C.Kind.format B.Store.words A.Store.words table.old → C.Index.sound ready → table_of C.Column.areas C.Index.list B.Store.words A.Store.words table.new ≡ after C.Kind.format C.Column.takes (table_of C.Column.areas C.Index.list B.Store.words A.Store.words table.old) (typed_answer (C.Column.areas ready)) }
-    ensures claim { Sound C.Index.sound C.FromBytes.slices C.FromBytes.kept C.Kind.format B.Store.words A.Store.words table.old → C.Index.sound ready → Converts W.WriteBytes.taken W.WriteBytes.room W.WriteBytes.beyond W.WriteBytes.fault C.Elem.Value.fits C.Kind.format C.Column.takes (table_of C.Column.areas C.Index.list B.Store.words A.Store.words table.old) (C.Column.areas ready) sink.old sink.new result }
+    ensures after { table_of C.Column table.new ≡ after C.Kind.format C.Column.takes (table_of C.Column table.old) (typed_answer (C.Column.areas ready)) }
+    ensures held { Held C.Elem.Value.fits (holds C.Kind.format (table_of C.Column table.new)) }
+    ensures claim { Converts W.WriteBytes C.Elem.Value.fits C.Kind.format C.Column.takes (table_of C.Column table.old) (C.Column.areas ready) sink.old sink.new result }
 {
-    C::lawful();
-    if let Err(fault) = table.make_typed(ready) {
-        return Err(ConvertFault::Refused(fault));
-    }
-    match table.write(sink) {
-        Ok(()) => Ok(()),
-        Err(fault) => Err(ConvertFault::Write(fault)),
-    }
+    table.make_typed(ready)?;
+    table.write(sink)?;
+    Ok(())
 }

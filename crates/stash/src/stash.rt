@@ -2,31 +2,34 @@
 ghost use Rattle.std.specs.Prelude.{◌≡◌, [], Err};
 ghost use Rattle.area.specs.Fault.{refuse};
 ghost use Rattle.area.specs.declared.fault.Refusal.TheVariants.{NotTyped};
-ghost use Rattle.stash.specs.History.{after, answer, append as append_call, clear as clear_call, typed_answer, push as push_call, typed};
-ghost use Rattle.read.specs.Form.{Stands, list_of};
-ghost use Rattle.stash.specs.Stash.{Brought, Sound, admitted_table, call_of, filled, table_of};
+ghost use Rattle.column.specs.Kind.{Held};
+ghost use Rattle.stash.specs.History.{after, answer, append as append_call, clear as clear_call, holds, typed_answer, push as push_call, typed};
+ghost use Rattle.stash.specs.Stash.{AdmittedTable, Filled, call_of, table_of};
 
 use area::fault::{Fault, Refusal};
 use column::append::append;
 use column::element::Value;
 use column::kind::{Column, Index, Kind};
 use read::form::FromBytes;
-use read::validate::validate;
-use read::view::View;
+use read::validate::{Admitted, validate};
 use storage::store::Store;
 
-// The three states of a table.
+// The three states of a table. The images are type arguments: a caller of an enum that named `Admitted<C, _>` in two
+// variants, where a column `C` holds a `&mut`, is not covered by the borrow checker.
 #[derive(Drop)]
-pub enum Stash<C: Column + FromBytes + Drop, B: Store + Drop, A: Store + Drop> {
+pub enum State<C: Drop, B: Drop, A: Drop> {
     Typed(C),
-    Bytes(B, C::Form),
-    Align(A, C::Form),
+    Bytes(B),
+    Align(A),
 }
+
+// A table over columns `C`: a stored image that it holds was admitted.
+pub type Stash<C, B, A> = State<C, Admitted<C, B>, Admitted<C, A>>;
 
 // The calls that may change a table.
 #[derive(Drop)]
 pub enum Event<
-    C: Column + FromBytes + Drop,
+    C: Column + Drop,
     R: Index<Item = C::Elem> + Drop,
     B: Store + Drop,
     A: Store + Drop,
@@ -46,55 +49,51 @@ fn not_typed() -> Result<(), Fault>
     Err(Fault::at_start(Refusal::NotTyped))
 }
 
-// A column whose list is emptied.
-fn emptied<C: Column>(mut column: C) -> C
-    ensures keeps { C.Index.sound column → C.Index.sound result }
-    ensures after { C.Index.sound column → C.Index.list result ≡ [] }
-    ensures same { C.Index.sound column → C.Column.areas result ≡ C.Column.areas column }
+// Clears a ready column and appends a list to it.
+fn fill<C: Column + Drop, R: Index<Item = C::Elem>>(mut ready: C, source: &R) -> Result<C, Fault>
+    ensures { Filled C.Column ready (R.Index.list source.now) result }
 {
-    column.clear();
-    column
-}
-
-// Clears a ready column and appends the list of a stored image to it.
-fn fill<C: Column + FromBytes + Drop, S: Store>(
-    ready: C,
-    form: &C::Form,
-    store: &S,
-) -> Result<C, Fault>
-    ensures { C.Index.sound ready → Stands C.FromBytes.slices C.FromBytes.kept C.Kind.format form.now (S.Store.words store.now) → filled C.Index.sound C.Column.areas C.Index.list C.Column.takes (C.Column.areas ready) (list_of C.Kind.format (C.FromBytes.slices form.now (S.Store.words store.now))) result }
-{
-    let mut column = emptied(ready);
-    let view: View<C, S> = View::new(form, store);
-    append(&mut column, &view, 0, view.len())?;
-    Ok(column)
+    ready.clear();
+    append(&mut ready, source, 0, source.len())?;
+    Ok(ready)
 }
 
 impl<C: Column + FromBytes + Drop, B: Store + Drop, A: Store + Drop> Stash<C, B, A> {
     // A fresh table: Typed, and its list empty.
-    pub fn new(column: C) -> Stash<C, B, A>
-        ensures keeps { C.Index.sound column → Sound C.Index.sound C.FromBytes.slices C.FromBytes.kept C.Kind.format B.Store.words A.Store.words result }
-        ensures after { C.Index.sound column → table_of C.Column.areas C.Index.list B.Store.words A.Store.words result ≡ typed (C.Column.areas column) [] }
+    pub fn new(mut column: C) -> Stash<C, B, A>
+        ensures { table_of C.Column result ≡ typed (C.Column.areas column) [] }
     {
-        Stash::Typed(emptied(column))
+        column.clear();
+        Stash::Typed(column)
     }
 
     // The table of a stored image that is admitted, or the first question that it fails.
     pub fn try_from_bytes(store: B) -> Result<Stash<C, B, A>, Fault>
-        ensures { admitted_table C.Index.sound C.FromBytes.slices C.FromBytes.kept C.Kind.format C.Column.areas C.Index.list B.Store.words A.Store.words (B.Store.words store) result }
+        ensures { AdmittedTable C.Column (B.Store.words store) result }
     {
-        let form = validate::<C, B>(&store)?;
-        Ok(Stash::Bytes(store, form))
+        Ok(Stash::Bytes(validate(store)?))
+    }
+
+    // A ready column that is given the table's list.
+    fn filled(&self, ready: C) -> Result<C, Fault>
+        ensures { Filled C.Column ready (holds C.Kind.format (table_of C.Column self.now)) result }
+    {
+        match self {
+            Stash::Typed(column) => fill(ready, column),
+            Stash::Bytes(image) => fill(ready, &image.view()),
+            Stash::Align(image) => fill(ready, &image.view()),
+        }
     }
 
     // Answers a call by the table's present state and the call together.
+    #[tactic(auto, using(crate::proofs::ConvertLemmas::not_all_taken))]
     pub fn apply<R: Index<Item = C::Elem> + Drop>(
         &mut self,
         event: Event<C, R, B, A>,
     ) -> Result<(), Fault>
-        ensures keeps { Sound C.Index.sound C.FromBytes.slices C.FromBytes.kept C.Kind.format B.Store.words A.Store.words self.old → Brought C.Index.sound R.Index.sound event → Sound C.Index.sound C.FromBytes.slices C.FromBytes.kept C.Kind.format B.Store.words A.Store.words self.new }
-        ensures answer { Sound C.Index.sound C.FromBytes.slices C.FromBytes.kept C.Kind.format B.Store.words A.Store.words self.old → Brought C.Index.sound R.Index.sound event → result ≡ answer C.Kind.format C.Column.takes (table_of C.Column.areas C.Index.list B.Store.words A.Store.words self.old) (call_of C.Column.areas R.Index.list B.Store.words A.Store.words event) }
-        ensures after { Sound C.Index.sound C.FromBytes.slices C.FromBytes.kept C.Kind.format B.Store.words A.Store.words self.old → Brought C.Index.sound R.Index.sound event → table_of C.Column.areas C.Index.list B.Store.words A.Store.words self.new ≡ after C.Kind.format C.Column.takes (table_of C.Column.areas C.Index.list B.Store.words A.Store.words self.old) (call_of C.Column.areas R.Index.list B.Store.words A.Store.words event) }
+        ensures answer { result ≡ answer C.Kind.format C.Column.takes (table_of C.Column self.old) (call_of C.Column R.Index.list B.Store A.Store event) }
+        ensures after { table_of C.Column self.new ≡ after C.Kind.format C.Column.takes (table_of C.Column self.old) (call_of C.Column R.Index.list B.Store A.Store event) }
+        ensures held { Held C.Elem.Value.fits (holds C.Kind.format (table_of C.Column self.new)) }
     {
         match event {
             Event::Push(x) => match self {
@@ -110,38 +109,35 @@ impl<C: Column + FromBytes + Drop, B: Store + Drop, A: Store + Drop> Stash<C, B,
                     c.clear();
                     Ok(())
                 }
-                Stash::Bytes(_, _) | Stash::Align(_, _) => not_typed(),
+                Stash::Bytes(_) | Stash::Align(_) => not_typed(),
             },
             Event::MakeTyped(ready) => {
-                let filled = match self {
-                    Stash::Typed(_) => return Ok(()),
-                    Stash::Bytes(store, form) => fill(ready, form, store)?,
-                    Stash::Align(store, form) => fill(ready, form, store)?,
-                };
+                if let Stash::Typed(_) = self {
+                    return Ok(());
+                }
+                let filled = self.filled(ready)?;
                 *self = Stash::Typed(filled);
                 Ok(())
             }
             Event::Bytes(store) => {
-                let form = validate::<C, B>(&store)?;
-                *self = Stash::Bytes(store, form);
+                *self = Stash::Bytes(validate(store)?);
                 Ok(())
             }
-            Event::Align(store) => match self {
-                Stash::Align(_, _) => Ok(()),
-                _ => {
-                    let form = validate::<C, A>(&store)?;
-                    *self = Stash::Align(store, form);
-                    Ok(())
+            Event::Align(store) => {
+                if let Stash::Align(_) = self {
+                    return Ok(());
                 }
-            },
+                *self = Stash::Align(validate(store)?);
+                Ok(())
+            }
         }
     }
 
     // Puts `x` at the end.
     pub fn push(&mut self, x: C::Elem) -> Result<(), Fault>
-        ensures keeps { Sound C.Index.sound C.FromBytes.slices C.FromBytes.kept C.Kind.format B.Store.words A.Store.words self.old → Sound C.Index.sound C.FromBytes.slices C.FromBytes.kept C.Kind.format B.Store.words A.Store.words self.new }
-        ensures answer { Sound C.Index.sound C.FromBytes.slices C.FromBytes.kept C.Kind.format B.Store.words A.Store.words self.old → result ≡ answer C.Kind.format C.Column.takes (table_of C.Column.areas C.Index.list B.Store.words A.Store.words self.old) (push_call x) }
-        ensures after { Sound C.Index.sound C.FromBytes.slices C.FromBytes.kept C.Kind.format B.Store.words A.Store.words self.old → table_of C.Column.areas C.Index.list B.Store.words A.Store.words self.new ≡ after C.Kind.format C.Column.takes (table_of C.Column.areas C.Index.list B.Store.words A.Store.words self.old) (push_call x) }
+        ensures answer { result ≡ answer C.Kind.format C.Column.takes (table_of C.Column self.old) (push_call x) }
+        ensures after { table_of C.Column self.new ≡ after C.Kind.format C.Column.takes (table_of C.Column self.old) (push_call x) }
+        ensures held { Held C.Elem.Value.fits (holds C.Kind.format (table_of C.Column self.new)) }
     {
         self.apply::<C>(Event::Push(x))
     }
@@ -153,9 +149,9 @@ impl<C: Column + FromBytes + Drop, B: Store + Drop, A: Store + Drop> Stash<C, B,
         a: usize,
         b: usize,
     ) -> Result<(), Fault>
-        ensures keeps { Sound C.Index.sound C.FromBytes.slices C.FromBytes.kept C.Kind.format B.Store.words A.Store.words self.old → R.Index.sound source.now → Sound C.Index.sound C.FromBytes.slices C.FromBytes.kept C.Kind.format B.Store.words A.Store.words self.new }
-        ensures answer { Sound C.Index.sound C.FromBytes.slices C.FromBytes.kept C.Kind.format B.Store.words A.Store.words self.old → R.Index.sound source.now → result ≡ answer C.Kind.format C.Column.takes (table_of C.Column.areas C.Index.list B.Store.words A.Store.words self.old) (append_call (R.Index.list source.now) a b) }
-        ensures after { Sound C.Index.sound C.FromBytes.slices C.FromBytes.kept C.Kind.format B.Store.words A.Store.words self.old → R.Index.sound source.now → table_of C.Column.areas C.Index.list B.Store.words A.Store.words self.new ≡ after C.Kind.format C.Column.takes (table_of C.Column.areas C.Index.list B.Store.words A.Store.words self.old) (append_call (R.Index.list source.now) a b) }
+        ensures answer { result ≡ answer C.Kind.format C.Column.takes (table_of C.Column self.old) (append_call (R.Index.list source.now) a b) }
+        ensures after { table_of C.Column self.new ≡ after C.Kind.format C.Column.takes (table_of C.Column self.old) (append_call (R.Index.list source.now) a b) }
+        ensures held { Held C.Elem.Value.fits (holds C.Kind.format (table_of C.Column self.new)) }
     {
         match self {
             Stash::Typed(c) => append(c, source, a, b),
@@ -165,18 +161,18 @@ impl<C: Column + FromBytes + Drop, B: Store + Drop, A: Store + Drop> Stash<C, B,
 
     // Empties the list.
     pub fn clear(&mut self) -> Result<(), Fault>
-        ensures keeps { Sound C.Index.sound C.FromBytes.slices C.FromBytes.kept C.Kind.format B.Store.words A.Store.words self.old → Sound C.Index.sound C.FromBytes.slices C.FromBytes.kept C.Kind.format B.Store.words A.Store.words self.new }
-        ensures answer { Sound C.Index.sound C.FromBytes.slices C.FromBytes.kept C.Kind.format B.Store.words A.Store.words self.old → result ≡ answer C.Kind.format C.Column.takes (table_of C.Column.areas C.Index.list B.Store.words A.Store.words self.old) (clear_call) }
-        ensures after { Sound C.Index.sound C.FromBytes.slices C.FromBytes.kept C.Kind.format B.Store.words A.Store.words self.old → table_of C.Column.areas C.Index.list B.Store.words A.Store.words self.new ≡ after C.Kind.format C.Column.takes (table_of C.Column.areas C.Index.list B.Store.words A.Store.words self.old) (clear_call) }
+        ensures answer { result ≡ answer C.Kind.format C.Column.takes (table_of C.Column self.old) clear_call }
+        ensures after { table_of C.Column self.new ≡ after C.Kind.format C.Column.takes (table_of C.Column self.old) clear_call }
+        ensures held { Held C.Elem.Value.fits (holds C.Kind.format (table_of C.Column self.new)) }
     {
         self.apply::<C>(Event::Clear)
     }
 
     // Puts the list into a ready column, which is cleared first. A Typed table accepts, and lets the column go.
     pub fn make_typed(&mut self, ready: C) -> Result<(), Fault>
-        ensures keeps { Sound C.Index.sound C.FromBytes.slices C.FromBytes.kept C.Kind.format B.Store.words A.Store.words self.old → C.Index.sound ready → Sound C.Index.sound C.FromBytes.slices C.FromBytes.kept C.Kind.format B.Store.words A.Store.words self.new }
-        ensures answer { Sound C.Index.sound C.FromBytes.slices C.FromBytes.kept C.Kind.format B.Store.words A.Store.words self.old → C.Index.sound ready → result ≡ answer C.Kind.format C.Column.takes (table_of C.Column.areas C.Index.list B.Store.words A.Store.words self.old) (typed_answer (C.Column.areas ready)) }
-        ensures after { Sound C.Index.sound C.FromBytes.slices C.FromBytes.kept C.Kind.format B.Store.words A.Store.words self.old → C.Index.sound ready → table_of C.Column.areas C.Index.list B.Store.words A.Store.words self.new ≡ after C.Kind.format C.Column.takes (table_of C.Column.areas C.Index.list B.Store.words A.Store.words self.old) (typed_answer (C.Column.areas ready)) }
+        ensures answer { result ≡ answer C.Kind.format C.Column.takes (table_of C.Column self.old) (typed_answer (C.Column.areas ready)) }
+        ensures after { table_of C.Column self.new ≡ after C.Kind.format C.Column.takes (table_of C.Column self.old) (typed_answer (C.Column.areas ready)) }
+        ensures held { Held C.Elem.Value.fits (holds C.Kind.format (table_of C.Column self.new)) }
     {
         self.apply::<C>(Event::MakeTyped(ready))
     }

@@ -7,9 +7,8 @@ use Rattle.std.proofs.lemmas.List.{take_more, take_more_set, drop-set-lt, set-ap
 use Rattle.std.proofs.lemmas.Bool.{le-leb}
 use Rattle.area.specs.Digits.{number, digits}
 use Rattle.area.specs.Slice.{spill}
-use Rattle.area.proofs.DigitLemmas.{all_length-digits, digits-number_all, digits_under, length_digits}
+use Rattle.area.proofs.DigitLemmas.{all_length_digits, digits_number_all, digits_under, length_digits}
 use Rattle.area.proofs.JoinLemmas.{eight}
-use Rattle.area.proofs.SliceLemmas.{length-spill}
 use Rattle.storage.specs.Sink.{piece_answer, taking, leaving, room_after}
 
 -- new is old with the first i bytes of bs from place a on
@@ -61,14 +60,7 @@ set_joined f k (y ∷ xs) (suc i) j x e b h l m q =
     ∙ (ap (λ n. f y ++ set (flat_map f xs) n b) (sym r) ∙ sym (set-append_right (f y) (flat_map f xs) k (k * suc i + j) b h.0 (omega (arith, mul-suc k i))))
 
 pub spill-set : (ws : List ℕ) (i j w b : ℕ) → i < length ws → j < 8 → digits 256 8 w ≡ set (digits 256 8 (get_or ws i 0)) j b → spill (set ws i w) ≡ set (spill ws) (8 * i + j) b
-spill-set ws i j w b l m q = set_joined (digits 256 8) 8 ws i j w 0 b (all_length-digits 256 8 ws) l m q
-
--- one more byte of a piece goes into byte j of word k
-pub written_more_word : (old : List ℕ) (a : ℕ) (bs ws : List ℕ) (i k j w : ℕ) → Written (spill old) a bs (spill ws) i → 8 * k + j ≡ a + i → i < length bs → length bs ≤ length (spill old) - a → j < 8 → digits 256 8 w ≡ set (digits 256 8 (get_or ws k 0)) j (get_or bs i 0) → Written (spill old) a bs (spill (set ws k w)) (i + 1)
-written_more_word old a bs ws i k j w h e l fits m q =
-    let p : 8 * k + j < length (spill old) = omega arith in
-    let n : k < length ws = omega (arith, h.long, length-spill ws) in
-    subst (λ xs. Written (spill old) a bs xs (i + 1)) (sym (spill-set ws k j w (get_or bs i 0) n m q)) (written_more (spill old) a bs (spill ws) i (8 * k + j) h e l p)
+spill-set ws i j w b l m q = set_joined (digits 256 8) 8 ws i j w 0 b (all_length_digits 256 8 ws) l m q
 
 -- the bytes of a word as `to_le_bytes` gives them
 pub bytes_of : (w : ℕ) → digits 256 8 w ≡ (w % 256) ∷ (w / 256 % 256) ∷ (w / 65536 % 256) ∷ (w / 16777216 % 256) ∷ (w / 4294967296 % 256) ∷ (w / 1099511627776 % 256) ∷ (w / 281474976710656 % 256) ∷ (w / 72057594037927936 % 256) ∷ []
@@ -80,4 +72,4 @@ byte_set w j b r bs e h q =
     let l : length (set bs j b) ≡ 8 = length-set bs j b ∙ (ap length e ∙ length_digits 256 8 w) in
     let under : AllByRecursion (λ d. d < 256) bs = subst (AllByRecursion (λ d. d < 256)) (sym e) (digits_under 256 8 w (lit< tt)) in
     let n : r ≡ number 256 (set bs j b) = q ∙ (sym (eight (set bs j b) 0 (omega arith)) ∙ ap (number 256) (take_all 8 (set bs j b) (omega arith))) in
-    ap (digits 256 8) n ∙ (digits-number_all 256 (set bs j b) 8 (All-set (λ d. d < 256) bs j b h under) l ∙ ap (λ xs. set xs j b) e)
+    ap (digits 256 8) n ∙ (digits_number_all 256 (set bs j b) 8 (All-set (λ d. d < 256) bs j b h under) l ∙ ap (λ xs. set xs j b) e)

@@ -1,2 +1,4 @@
 pub mod Sink
 pub mod Store
+pub mod StoreLaws
+pub mod Window

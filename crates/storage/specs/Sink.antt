@@ -1,6 +1,5 @@
 -- Sinks: a piece is taken whole exactly when it is no longer than the room.
 use Rattle.std.specs.Prelude.{ℕ, ◌+◌, ◌-◌, min, cond, List, ◌++◌, length, drop, Ok, Err, Result, nat_le}
-use Rattle.storage.specs.declared.write.Quota.{Quota}
 use Rattle.storage.specs.declared.write.QuotaFault.{QuotaFault}
 use Rattle.storage.specs.declared.write.QuotaFault.TheVariants.{Limit, Under}
 
@@ -22,8 +21,8 @@ abbrev pub counting : ℕ → ℕ → List ℕ → ℕ
 counting room n bs = cond (nat_le (length bs) room) (n + length bs) n
 
 -- a quota's room is the smaller of what the limit leaves and the room below
-abbrev pub quota_room : {W : Type 0} → (W → ℕ) → Quota W → ℕ
-quota_room room q = min (q.limit - q.count) (room q.sink)
+abbrev pub quota_room : ℕ → ℕ → ℕ → ℕ
+quota_room limit count room = min (limit - count) room
 
 -- a quota's fault is its own where what the limit leaves is short, else the one below
 abbrev pub quota_fault : {F : Type 0} → ℕ → List ℕ → F → QuotaFault F

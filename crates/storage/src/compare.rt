@@ -5,13 +5,5 @@ ghost use Rattle.std.specs.Prelude.{◌≡◌, Decides};
 pub fn same_bytes(a: &[u8], b: &[u8]) -> bool
     ensures { Decides result (a.now ≡ b.now) }
 {
-    if a.len() != b.len() {
-        return false;
-    }
-    for i in 0..a.len() {
-        if a[i] != b[i] {
-            return false;
-        }
-    }
-    true
+    a == b
 }

@@ -1,10 +1,12 @@
 // Stores: what a stored image is read from. A store means a list of words, and asking alters nothing.
-ghost use Rattle.std.specs.Prelude.{◌≡◌, ℕ, ◌^◌, ◌<◌, List, length, take, drop};
+ghost use Rattle.std.specs.Prelude.{◌≡◌, ℕ, ◌+◌, ◌^◌, ◌<◌, ◌≤◌, true, List, length, take, drop, slice_index};
 ghost use Rattle.std.specs.List.{AllByRecursion};
-ghost use Rattle.storage.specs.Store.{join_words, word_at, store_like, window_answer};
+ghost use Rattle.storage.specs.StoreLaws.{all_fit, joined_whole, window_whole};
+ghost use Rattle.storage.specs.Store.{join_words, length_stands, word_at, StoreLike};
 
 use area::fault::{Fault, Refusal};
 use area::words::join;
+use std::alloc::AllocError;
 
 // The most bytes that a stored image has.
 pub const MAX_BYTES: usize = 4_294_967_288;
@@ -14,39 +16,36 @@ pub trait Store {
 
     // How many words there are.
     fn count(&self) -> usize
-        ensures count { result ≡ length (words self.now) }
-        ensures whole { AllByRecursion (λ w. w < 2 ^ 64) (words self.now) };
+        ensures { result ≡ length (words self.now) };
 
     // The word at place `i`, or none at or past the count.
     fn word(&self, i: usize) -> Option<u64>
         ensures { result ≡ word_at (words self.now) i };
+
+    // Each of them is a word.
+    ghost whole: { (s : Self) → AllByRecursion (λ w. w < 2 ^ 64) (words s) };
 }
 
-// How many words or bytes an area has. The elements of a slice are known to fit where it is a parameter that is passed on.
-fn word_count(cells: &[u64]) -> usize
-    ensures count { result ≡ length cells.now }
-    ensures whole { AllByRecursion (λ w. w < 2 ^ 64) cells.now }
-{
-    if cells.is_empty() {
-        return 0;
-    }
-    cells.len()
-}
+// A reference to a store is a store of the same words.
+impl<'s, S: Store> Store for &'s S {
+    ghost words = { λ s. S.Store.words s.now };
 
-pub fn byte_count(bytes: &[u8]) -> usize
-    ensures count { result ≡ length bytes.now }
-    ensures whole { AllByRecursion (λ b. b < 256) bytes.now }
-{
-    if bytes.is_empty() {
-        return 0;
+    ghost whole = { λ s. S.Store.whole s.now };
+
+    fn count(&self) -> usize {
+        (**self).count()
     }
-    bytes.len()
+
+    fn word(&self, i: usize) -> Option<u64> {
+        (**self).word(i)
+    }
 }
 
 // A word area.
 #[derive(Clone, Copy)]
 pub struct WordArea<'a> {
     cells: &'a [u64],
+    pub ghost fitting: { (i : ℕ) → slice_index cells.now i < 2 ^ 64 },
 }
 
 impl<'a> WordArea<'a> {
@@ -60,28 +59,29 @@ impl<'a> WordArea<'a> {
 impl<'a> Store for WordArea<'a> {
     ghost words = { λ s. s.cells.now };
 
+    ghost whole = { λ s. all_fit s.cells.now (2 ^ 64) s.fitting };
+
     fn count(&self) -> usize {
-        word_count(self.cells)
+        self.cells.len()
     }
 
     fn word(&self, i: usize) -> Option<u64> {
-        if i >= self.cells.len() {
-            return None;
-        }
-        Some(self.cells[i])
+        self.cells.get(i).copied()
     }
 }
 
 // A byte area: its words are joined from eight bytes each, the lowest first.
 #[derive(Clone, Copy)]
 pub struct ByteArea<'a> {
-    bytes: &'a [u8],
+    pub bytes: &'a [u8],
+    pub ghost stands: { length_stands bytes.now ≡ true },
+    pub ghost fitting: { (i : ℕ) → slice_index bytes.now i < 256 },
 }
 
 impl<'a> ByteArea<'a> {
     // 1 where the length is no multiple of 8, or more than an image has.
     pub fn new(bytes: &'a [u8]) -> Result<ByteArea<'a>, Fault>
-        ensures { store_like result (λ s. s.bytes.now) bytes.now }
+        ensures { StoreLike result (λ s. s.bytes.now) bytes.now }
     {
         if bytes.len() % 8 != 0 || bytes.len() > MAX_BYTES {
             return Err(Fault::at_start(Refusal::ByteLength));
@@ -93,8 +93,10 @@ impl<'a> ByteArea<'a> {
 impl<'a> Store for ByteArea<'a> {
     ghost words = { λ s. join_words s.bytes.now };
 
+    ghost whole = { λ s. joined_whole s.bytes.now s.fitting };
+
     fn count(&self) -> usize {
-        byte_count(self.bytes) / 8
+        self.bytes.len() / 8
     }
 
     fn word(&self, i: usize) -> Option<u64> {
@@ -106,17 +108,28 @@ impl<'a> Store for ByteArea<'a> {
 }
 
 // A window of `size` words from place `from` on over any store.
-#[derive(Clone, Copy)]
-pub struct Window<S> {
+pub struct Window<S: Store> {
     store: S,
     from: usize,
     size: usize,
+    ghost inside: { from + size ≤ length (S.Store.words store) },
+    ghost in_range: { from + size < 2 ^ 64 },
+}
+
+impl<S: Store + Copy> Copy for Window<S> {}
+
+impl<S: Store + Copy> Clone for Window<S> {
+    fn clone(&self) -> Result<Self, AllocError> {
+        Ok(*self)
+    }
 }
 
 impl<S: Store + Drop> Window<S> {
+    ghost use Rattle.storage.specs.Window.{WindowAnswer};
+
     // 16 where the window does not lie inside the store.
     pub fn new(store: S, from: usize, size: usize) -> Result<Window<S>, Fault>
-        ensures { window_answer S.Store.words result store from size }
+        ensures { WindowAnswer S.Store.words result store from size }
     {
         let count = store.count();
         if from > count || size > count - from {
@@ -129,12 +142,14 @@ impl<S: Store + Drop> Window<S> {
 impl<S: Store> Store for Window<S> {
     ghost words = { λ w. take w.size (drop w.from (S.Store.words w.store)) };
 
+    ghost whole = { λ w. window_whole w.from w.size (S.Store.words w.store) (S.Store.whole w.store) };
+
     fn count(&self) -> usize {
-        self.size.min(self.store.count().saturating_sub(self.from))
+        self.size
     }
 
     fn word(&self, i: usize) -> Option<u64> {
-        if i >= self.size || i >= self.store.count().saturating_sub(self.from) {
+        if i >= self.size {
             return None;
         }
         self.store.word(self.from + i)

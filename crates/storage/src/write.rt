@@ -1,5 +1,5 @@
 // Sinks: where images are written to, piece by piece. A piece is taken whole or not at all.
-ghost use Rattle.std.specs.Prelude.{◌≡◌, ℕ, ◌+◌, ◌-◌, ◌*◌, ◌%◌, ◌<◌, min, List, length, take, drop, slice_set};
+ghost use Rattle.std.specs.Prelude.{◌≡◌, ℕ, ◌+◌, ◌-◌, ◌*◌, ◌<◌, ◌≤◌, List, length, take, drop, slice_set};
 ghost use Rattle.area.specs.Digits.{digits};
 ghost use Rattle.area.specs.Slice.{spill};
 ghost use Rattle.storage.specs.Sink.{counting, leaving, piece_answer, quota_fault, quota_room, room_after, taking};
@@ -29,18 +29,27 @@ pub trait WriteBytes {
 #[derive(Clone, Copy)]
 pub struct Full;
 
-// A byte area: the first `at` bytes are taken.
+// A byte area that is lent, since the firmware has no heap: the first `at` bytes are taken.
 #[derive(Drop)]
 pub struct ByteSink<'a> {
     area: &'a mut [u8],
     at: usize,
+    ghost within: { at ≤ length area.now },
 }
 
 impl<'a> ByteSink<'a> {
     pub fn new(area: &'a mut [u8]) -> ByteSink<'a>
-        ensures { (result.at ≡ 0) × (result.area.now ≡ area.old) }
+        ensures start { (result.at ≡ 0) × (result.area.now ≡ area.old) }
+        ensures area { result.area.ghost_name ≡ area.entry.ghost_name }
     {
         ByteSink { area, at: 0 }
+    }
+
+    // How many bytes are taken.
+    pub fn count(&self) -> usize
+        ensures { result ≡ self.now.at }
+    {
+        self.at
     }
 }
 
@@ -55,36 +64,32 @@ impl<'a> WriteBytes for ByteSink<'a> {
 
     ghost fault = { λ _ _. record {} };
 
-    fn write_all(&mut self, bytes: &[u8]) -> Result<(), Full> {
-        if bytes.len() > self.area.len().saturating_sub(self.at) {
+    // Beside the clauses of the trait: the sink still writes to the area that it was made over.
+    fn write_all(&mut self, bytes: &[u8]) -> Result<(), Full>
+        ensures answer { result ≡ piece_answer (length self.old.area.now - self.old.at) bytes.now (record {}) }
+        ensures taken { take self.new.at self.new.area.now ≡ taking (length self.old.area.now - self.old.at) (take self.old.at self.old.area.now) bytes.now }
+        ensures room { length self.new.area.now - self.new.at ≡ room_after (length self.old.area.now - self.old.at) bytes.now }
+        ensures beyond { drop self.new.at self.new.area.now ≡ leaving (length self.old.area.now - self.old.at) (drop self.old.at self.old.area.now) bytes.now }
+        ensures area { self.new.area.ghost_name ≡ self.old.area.ghost_name }
+    {
+        if bytes.len() > self.area.len() - self.at {
             return Err(Full);
         }
-        for i in 0..bytes.len() {
-            self.area[self.at + i] = bytes[i];
-        }
-        self.at += bytes.len();
+        let end = self.at + bytes.len();
+        self.area[self.at..end].copy_from_slice(bytes);
+        self.at = end;
         Ok(())
     }
 }
 
-// A word area: its bytes are those of its words, the lowest first. The first `at` words are taken, and `part % 8` bytes of the next.
+// A word area: its bytes are those of its words, the lowest first. The first `at` words are taken, and `part` bytes of the next.
 #[derive(Drop)]
 pub struct WordSink<'a> {
     area: &'a mut [u64],
     at: usize,
     part: usize,
-}
-
-impl<'a> WordSink<'a> {
-    pub fn new(area: &'a mut [u64]) -> WordSink<'a>
-        ensures { (result.at ≡ 0) × ((result.part ≡ 0) × (result.area.now ≡ area.old)) }
-    {
-        WordSink {
-            area,
-            at: 0,
-            part: 0,
-        }
-    }
+    ghost within: { 8 * at + part ≤ 8 * length area.now },
+    ghost in_word: { part < 8 },
 }
 
 // The word with byte `j` replaced.
@@ -97,31 +102,48 @@ fn with_byte(word: u64, j: usize, byte: u8) -> u64
     u64::from_le_bytes(bytes)
 }
 
+impl<'a> WordSink<'a> {
+    pub fn new(area: &'a mut [u64]) -> WordSink<'a>
+        ensures { (result.at ≡ 0) × ((result.part ≡ 0) × (result.area.now ≡ area.old)) }
+    {
+        WordSink {
+            area,
+            at: 0,
+            part: 0,
+        }
+    }
+
+    // Writes the next byte.
+    fn put(&mut self, byte: u8)
+        requires { self.old.at < length self.old.area.now }
+        ensures next { 8 * self.new.at + self.new.part ≡ 8 * self.old.at + self.old.part + 1 }
+        ensures written { spill self.new.area.now ≡ slice_set (spill self.old.area.now) (8 * self.old.at + self.old.part) byte }
+    {
+        self.area[self.at] = with_byte(self.area[self.at], self.part, byte);
+        self.at += (self.part + 1) / 8;
+        self.part = (self.part + 1) % 8;
+    }
+}
+
 impl<'a> WriteBytes for WordSink<'a> {
     type Error = Full;
 
-    ghost taken = { λ s. take (8 * s.at + s.part % 8) (spill s.area.now) };
+    ghost taken = { λ s. take (8 * s.at + s.part) (spill s.area.now) };
 
-    ghost room = { λ s. length (spill s.area.now) - (8 * s.at + s.part % 8) };
+    ghost room = { λ s. length (spill s.area.now) - (8 * s.at + s.part) };
 
-    ghost beyond = { λ s. drop (8 * s.at + s.part % 8) (spill s.area.now) };
+    ghost beyond = { λ s. drop (8 * s.at + s.part) (spill s.area.now) };
 
     ghost fault = { λ _ _. record {} };
 
     fn write_all(&mut self, bytes: &[u8]) -> Result<(), Full> {
-        let taken = 8 * self.at as u128 + (self.part % 8) as u128;
-        if bytes.len() as u128 > (8 * self.area.len() as u128).saturating_sub(taken) {
+        // in 128 bits, since the bytes of a word area may be more than a `usize` counts
+        let taken = 8 * self.at as u128 + self.part as u128;
+        if bytes.len() as u128 > 8 * self.area.len() as u128 - taken {
             return Err(Full);
         }
-        for i in 0..bytes.len() {
-            let j = self.part % 8;
-            self.area[self.at] = with_byte(self.area[self.at], j, bytes[i]);
-            if j < 7 {
-                self.part = j + 1;
-            } else {
-                self.at += 1;
-                self.part = 0;
-            }
+        for byte in bytes {
+            self.put(*byte);
         }
         Ok(())
     }
@@ -140,37 +162,17 @@ pub struct Quota<W> {
     sink: W,
     limit: usize,
     count: usize,
+    ghost counted: { count ≤ limit },
 }
 
 impl<W: WriteBytes> Quota<W> {
     pub fn new(sink: W, limit: usize) -> Quota<W>
-        ensures { result ≡ record { sink = sink; limit = limit; count = 0 } }
+        ensures { (result.sink ≡ sink) × ((result.limit ≡ limit) × (result.count ≡ 0)) }
     {
         Quota {
             sink,
             limit,
             count: 0,
-        }
-    }
-
-    // Gives the sink below a piece that the limit leaves room for, and counts its bytes once they are taken.
-    fn pass_on(&mut self, bytes: &[u8]) -> Result<(), QuotaFault<W::Error>>
-        ensures answer { result ≡ piece_answer (quota_room W.WriteBytes.room self.old) bytes.now (quota_fault (self.new.limit - self.new.count) bytes.now (W.WriteBytes.fault self.new.sink bytes.now)) }
-        ensures taken { W.WriteBytes.taken self.new.sink ≡ taking (quota_room W.WriteBytes.room self.old) (W.WriteBytes.taken self.old.sink) bytes.now }
-        ensures room { quota_room W.WriteBytes.room self.new ≡ room_after (quota_room W.WriteBytes.room self.old) bytes.now }
-        ensures beyond { W.WriteBytes.beyond self.new.sink ≡ leaving (quota_room W.WriteBytes.room self.old) (W.WriteBytes.beyond self.old.sink) bytes.now }
-        ensures limit { self.new.limit ≡ self.old.limit }
-        ensures count { self.new.count ≡ counting (quota_room W.WriteBytes.room self.old) self.old.count bytes.now }
-    {
-        if bytes.len() > self.limit.saturating_sub(self.count) {
-            return Err(QuotaFault::Limit);
-        }
-        match self.sink.write_all(bytes) {
-            Ok(()) => {
-                self.count += bytes.len();
-                Ok(())
-            }
-            Err(fault) => Err(QuotaFault::Under(fault)),
         }
     }
 }
@@ -180,13 +182,26 @@ impl<W: WriteBytes> WriteBytes for Quota<W> {
 
     ghost taken = { λ q. W.WriteBytes.taken q.sink };
 
-    ghost room = { λ q. min (q.limit - q.count) (W.WriteBytes.room q.sink) };
+    ghost room = { λ q. quota_room q.limit q.count (W.WriteBytes.room q.sink) };
 
     ghost beyond = { λ q. W.WriteBytes.beyond q.sink };
 
     ghost fault = { λ q bs. quota_fault (q.limit - q.count) bs (W.WriteBytes.fault q.sink bs) };
 
-    fn write_all(&mut self, bytes: &[u8]) -> Result<(), QuotaFault<W::Error>> {
-        self.pass_on(bytes)
+    // Beside the clauses of the trait: the limit stays, and the bytes are counted once they are taken.
+    fn write_all(&mut self, bytes: &[u8]) -> Result<(), QuotaFault<W::Error>>
+        ensures answer { result ≡ piece_answer (quota_room self.old.limit self.old.count (W.WriteBytes.room self.old.sink)) bytes.now (quota_fault (self.new.limit - self.new.count) bytes.now (W.WriteBytes.fault self.new.sink bytes.now)) }
+        ensures taken { W.WriteBytes.taken self.new.sink ≡ taking (quota_room self.old.limit self.old.count (W.WriteBytes.room self.old.sink)) (W.WriteBytes.taken self.old.sink) bytes.now }
+        ensures room { quota_room self.new.limit self.new.count (W.WriteBytes.room self.new.sink) ≡ room_after (quota_room self.old.limit self.old.count (W.WriteBytes.room self.old.sink)) bytes.now }
+        ensures beyond { W.WriteBytes.beyond self.new.sink ≡ leaving (quota_room self.old.limit self.old.count (W.WriteBytes.room self.old.sink)) (W.WriteBytes.beyond self.old.sink) bytes.now }
+        ensures limit { self.new.limit ≡ self.old.limit }
+        ensures count { self.new.count ≡ counting (quota_room self.old.limit self.old.count (W.WriteBytes.room self.old.sink)) self.old.count bytes.now }
+    {
+        if bytes.len() > self.limit - self.count {
+            return Err(QuotaFault::Limit);
+        }
+        self.sink.write_all(bytes).map_err(QuotaFault::Under)?;
+        self.count += bytes.len();
+        Ok(())
     }
 }

@@ -22,9 +22,9 @@ fn main(rt: HostRuntime) -> anyhow::Result<()> {
     let mut area = [0u64; 218];
     let mut table = block_table(&mut ends, &mut bad, &mut wear);
     let mut lines: Vec<Line> = Vec::new(heap);
-    play(&mut table, input.as_slice(), &mut area, &mut lines)?;
+    play(&mut table, &input, &mut area, &mut lines)?;
     let mut out = BufWriter::new(heap, rt.stdout())?;
-    for line in lines.iter() {
+    for line in &lines {
         writeln!(out, "{line}")?;
     }
     out.flush()?;

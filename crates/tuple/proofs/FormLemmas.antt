@@ -1,130 +1,135 @@
--- A form of empties, and a form of pairs taken apart into those of its sides.
-use Rattle.std.proofs.Common.{◌≡◌, ℕ, ◌+◌, eqb, leb, List, [], ◌∷◌, ◌++◌, length, take, drop, replicate, None, Ok, Err, Result, sym, ap, ◌∙◌, subst, ap₂, add-zero, take-append-drop, take_at, drop_at}
+-- The two sides of a form of pairs.
+use Rattle.std.proofs.Common.{◌≡◌, ℕ, ◌+◌, ◌^◌, ◌<◌, eqb, List, [], ◌∷◌, ◌++◌, length, take, drop, zip, None, Ok, Err, Result, sym, refl, ap, ◌∙◌, subst, ap₂, take-append-drop, take_at, drop_at, arith}
 use lib.ListN.{length-map}
+use Rattle.std.specs.List.{AllByRecursion}
 use Rattle.std.proofs.lemmas.Bool.{eq-eqb, ne_eqb}
 use Rattle.area.specs.Fault.{refuse}
 use Rattle.area.specs.Slice.{Slice}
 use Rattle.area.specs.declared.fault.Fault.{Fault}
 use Rattle.area.specs.declared.fault.Refusal.TheVariants.{SliceContent}
-use Rattle.column.specs.Kind.{Format, L, reading_within, reads, word_of}
-use Rattle.column.specs.KindLemmas.{in_bounds, neither}
-use Rattle.decode.specs.Decode.{slice_in}
-use Rattle.decode.specs.declared.decoded.DecodedStore.{DecodedStore}
-use Rattle.read.specs.Form.{Stands, There, form_answer, list_of, slices_within, words_in}
-use Rattle.read.proofs.FormLemmas.{there_count}
-use Rattle.read.proofs.PlaceLemmas.{Made, bounds_err, bounds_ok, form_err, made, slices_left, slices_right, there_left, there_right}
-use Rattle.read.proofs.StandLemmas.{stands}
-use Rattle.tuple.specs.Empties.{empties_format}
-use Rattle.tuple.specs.Form.{EmptiesKept, PairKept, pair_slices}
-use Rattle.tuple.specs.Pair.{firsts, seconds, tuples, pair_format}
-use Rattle.tuple.specs.declared.form.EmptiesForm.{EmptiesForm}
+use Rattle.column.specs.Kind.{Format, Reading, after, reading_within, reads, refuses}
+use Rattle.column.specs.KindLemmas.{neither}
+use Rattle.decode.specs.Decode.{structure_fault}
+use Rattle.read.specs.declared.form.ReadForm.{Ghosts as FormMembers}
+use Rattle.read.specs.Form.{FormAnswer, Stands, There, list_of, slices_within}
+use Rattle.read.proofs.FormLemmas.{list_in, there_count}
+use Rattle.read.proofs.PlaceLemmas.{Made, bounds_err, bounds_ok, form_err, made, slices_left, slices_right}
+use Rattle.read.proofs.StandLemmas.{accepted, stands}
+use Rattle.tuple.specs.Form.{PairKept, pair_slices}
+use Rattle.tuple.specs.Pair.{firsts, seconds, pair_format}
+use Rattle.tuple.specs.PairLaws.{sides}
 use Rattle.tuple.specs.declared.form.PairForm.{PairForm}
-use Rattle.tuple.proofs.PairLaws.{sides}
-use Rattle.tuple.proofs.PairLemmas.{tuples_parts}
 
-pub empties_list : (t : EmptiesForm) (ws : List ℕ) → Stands (λ u vs. slice_in vs u.place ∷ []) EmptiesKept empties_format t ws → replicate t.count tt ≡ list_of empties_format (slice_in ws t.place ∷ [])
-empties_list t ws s =
-    let w = word_of (slice_in ws t.place) 0 in
-    ap (λ n. replicate n tt) s.keeps.count ∙ (in_bounds (leb w L) (replicate w tt) _ s.accepted.reading).1
+-- the list and the slices of two sides, each of which stands by itself
+module _ {A B : Type 0} (F : Format A) (G : Format B) (ls rs : List Slice) (count : length ls ≡ F.slots) where
+  pub giving_sides : F.giving ls ++ G.giving rs ≡ (pair_format F G).giving (ls ++ rs)
+  giving_sides = sym (ap₂ (λ us vs. F.giving us ++ G.giving vs) (take_at ls rs F.slots count) (drop_at ls rs F.slots count))
 
-module _ {A B X Y : Type 0} (f : X → List ℕ → List Slice) (g : Y → List ℕ → List Slice) (p : X → List ℕ → Type 0) (q : Y → List ℕ → Type 0) (F : Format A) (G : Format B) (t : PairForm X Y) (ws : List ℕ) where
+  abbrev together : Reading A → Reading B → List (A × B)
+  together p q = list_in (after 0 p (λ xs. after F.slots q (λ ys. reading_within (eqb (length xs) (length ys)) (zip xs ys))))
+
+  -- what cannot be read is empty
+  zip-together : (p : Reading A) (q : Reading B) → length (list_in p) ≡ length (list_in q) → zip (list_in p) (list_in q) ≡ together p q
+  zip-together (refuses k) q h = refl
+  zip-together (reads []) (refuses k) h = refl
+  zip-together (reads (x ∷ xs)) (refuses k) h = refl
+  zip-together (reads xs) (reads ys) h = rw (eq-eqb (length xs) (length ys) h)
+
+  pub list_sides : length (list_of F ls) ≡ length (list_of G rs) → zip (list_of F ls) (list_of G rs) ≡ list_of (pair_format F G) (ls ++ rs)
+  list_sides level =
+      zip-together (F.reading ls) (G.reading rs) level ∙ sym (ap₂ (λ us vs. together (F.reading us) (G.reading vs)) (take_at ls rs F.slots count) (drop_at ls rs F.slots count))
+
+-- the two sides of a form of pairs
+module _ {K J X Y A B : Type 0} (l : FormMembers K X A) (r : FormMembers J Y B) (F : Format A) (G : Format B) (t : PairForm X Y) (ws : List ℕ) where
   pub record Apart : Type 0 where
-    pub left : Stands f p F t.first ws
-    pub right : Stands g q G t.second ws
-    pub level : length (list_of F (f t.first ws)) ≡ length (list_of G (g t.second ws))
-    pub list : tuples (list_of F (f t.first ws)) (list_of G (g t.second ws)) ≡ list_of (pair_format F G) (pair_slices f g t ws)
-    pub giving : (pair_format F G).giving (pair_slices f g t ws) ≡ F.giving (f t.first ws) ++ G.giving (g t.second ws)
+    pub left : Stands l.slices l.kept F t.first ws
+    pub right : Stands r.slices r.kept G t.second ws
+    pub level : length (list_of F (l.slices t.first ws)) ≡ length (list_of G (r.slices t.second ws))
 
-  -- the first side has its number of slices
-  counted : Stands (pair_slices f g) (PairKept f F.slots p q) (pair_format F G) t ws → length (f t.first ws) ≡ F.slots
-  counted s = s.keeps.count
-
-  pub apart : Stands (pair_slices f g) (PairKept f F.slots p q) (pair_format F G) t ws → Apart
+  pub apart : Stands (pair_slices l r) (PairKept l r F.slots) (pair_format F G) t ws → Apart
   apart s =
-      let ls = f t.first ws in
-      let rs = g t.second ws in
+      let ls = l.slices t.first ws in
+      let rs = r.slices t.second ws in
       let xs = list_of (pair_format F G) (ls ++ rs) in
-      let a = sides F G (ls ++ rs) xs s.accepted in
-      let l = take_at ls rs F.slots (counted s) in
-      let r = drop_at ls rs F.slots (counted s) in
-      let u = stands f p F t.first ws _ (firsts xs) s.keeps.left l a.0 in
-      let v = stands g q G t.second ws _ (seconds xs) s.keeps.right r a.1 in
+      let a = sides F G (ls ++ rs) xs (accepted s) in
+      let u = stands l.slices l.kept F t.first ws _ (firsts xs) s.keeps.first (take_at ls rs F.slots s.keeps.count) a.0 in
+      let v = stands r.slices r.kept G t.second ws _ (seconds xs) s.keeps.second (drop_at ls rs F.slots s.keeps.count) a.1 in
       record {
         left = u.0;
         right = v.0;
         level = ap length u.1 ∙ length-map xs (λ x. x.0) ∙ sym (ap length v.1 ∙ length-map xs (λ x. x.1));
-        list = ap₂ tuples u.1 v.1 ∙ tuples_parts xs;
-        giving = ap₂ (λ us vs. F.giving us ++ G.giving vs) l r;
       }
 
 -- the answers to question 9 of a pair, from those of its sides, of which the second begins at number b
-module _ {S A B X Y : Type 0} (w : S → List ℕ) (d : DecodedStore S) (f : X → List ℕ → List Slice) (g : Y → List ℕ → List Slice) (p : X → List ℕ → Type 0) (q : Y → List ℕ → Type 0) (F : Format A) (G : Format B) (a b : ℕ) (t : There w d a (F.slots + G.slots)) (z : (pair_format F G).sized (slices_within w d a (F.slots + G.slots)) ≡ None) (e : b ≡ a + F.slots) where
-  abbrev pub ws : List ℕ
-  ws = words_in w d
+module _ {K J X Y A B : Type 0} (l : FormMembers K X A) (r : FormMembers J Y B) (F : Format A) (G : Format B) (ws : List ℕ) (asked : structure_fault None ws ≡ None) (whole : AllByRecursion (λ w. w < 2 ^ 64) ws) (a b : ℕ) (t : There ws a (F.slots + G.slots)) (z : (pair_format F G).sized (slices_within ws a (F.slots + G.slots)) ≡ None) (e : b ≡ a + F.slots) where
+  abbrev ss : List Slice
+  ss = slices_within ws a (F.slots + G.slots)
 
-  abbrev pub ss : List Slice
-  ss = slices_within w d a (F.slots + G.slots)
+  abbrev ls : List Slice
+  ls = slices_within ws a F.slots
+
+  abbrev rs : List Slice
+  rs = slices_within ws b G.slots
 
   abbrev pub Answer : Result (PairForm X Y) Fault → Type 0
-  Answer r = form_answer (pair_slices f g) (PairKept f F.slots p q) ws ss a ((pair_format F G).reading ss) r
+  Answer o = FormAnswer (pair_slices l r) (PairKept l r F.slots) ws ss a ((pair_format F G).reading ss) o
 
-  abbrev pub First : Result X Fault → Type 0
-  First r = There w d a F.slots → F.sized (slices_within w d a F.slots) ≡ None → form_answer f p ws (slices_within w d a F.slots) a (F.reading (slices_within w d a F.slots)) r
+  abbrev First : Result X Fault → Type 0
+  First o = There ws a F.slots → F.sized ls ≡ None → FormAnswer l.slices l.kept ws ls a (F.reading ls) o
 
-  abbrev pub Second : Result Y Fault → Type 0
-  Second r = There w d b G.slots → G.sized (slices_within w d b G.slots) ≡ None → form_answer g q ws (slices_within w d b G.slots) b (G.reading (slices_within w d b G.slots)) r
+  abbrev Second : Result Y Fault → Type 0
+  Second o = There ws b G.slots → G.sized rs ≡ None → FormAnswer r.slices r.kept ws rs b (G.reading rs) o
 
-  left : take F.slots ss ≡ slices_within w d a F.slots
-  left = slices_left w d a F.slots G.slots
+  left : take F.slots ss ≡ ls
+  left = slices_left ws a F.slots G.slots
 
-  right : drop F.slots ss ≡ slices_within w d b G.slots
-  right = slices_right w d a F.slots G.slots b e
+  right : drop F.slots ss ≡ rs
+  right = slices_right ws a F.slots G.slots b e
 
-  pub there_first : There w d a F.slots
-  there_first = there_left w d a F.slots G.slots t
+  there_first : There ws a F.slots
+  there_first = omega (arith, t)
 
-  pub there_second : There w d b G.slots
-  there_second = there_right w d a F.slots G.slots b e t
+  there_second : There ws b G.slots
+  there_second = omega (arith, t, e)
 
-  none_first : F.sized (slices_within w d a F.slots) ≡ None
+  none_first : F.sized ls ≡ None
   none_first = ap F.sized (sym left) ∙ (neither F.slots (F.sized (take F.slots ss)) (G.sized (drop F.slots ss)) z).0
 
-  none_second : G.sized (slices_within w d b G.slots) ≡ None
+  none_second : G.sized rs ≡ None
   none_second = ap G.sized (sym right) ∙ (neither F.slots (F.sized (take F.slots ss)) (G.sized (drop F.slots ss)) z).1
 
-  pub made_first : (x : X) → First (Ok x) → Made w d f p F a there_first x
-  made_first x h = made w d f p F a there_first none_first x (h there_first none_first)
+  made_first : (x : X) → First (Ok x) → Made ws asked whole l.slices l.kept F a there_first x
+  made_first x h = made ws asked whole l.slices l.kept F a there_first none_first x (h there_first none_first)
 
-  pub made_second : (y : Y) → Second (Ok y) → Made w d g q G b there_second y
-  made_second y h = made w d g q G b there_second none_second y (h there_second none_second)
+  made_second : (y : Y) → Second (Ok y) → Made ws asked whole r.slices r.kept G b there_second y
+  made_second y h = made ws asked whole r.slices r.kept G b there_second none_second y (h there_second none_second)
 
-  pub first_refused_lem : (v : Fault) → First (Err v) → Answer (Err v)
-  first_refused_lem v h =
-      form_err (pair_slices f g) (PairKept f F.slots p q) ws ss f p ws (slices_within w d a F.slots) a a 0 (F.reading (take F.slots ss)) _ v (sym (add-zero a))
-      (subst (λ rs. form_answer f p ws (slices_within w d a F.slots) a (F.reading rs) (Err v)) (sym left) (h there_first none_first))
+  module _ (x : X) (h : First (Ok x)) where
+    reads_first : F.reading (take F.slots ss) ≡ reads (list_of F (l.slices x ws))
+    reads_first = let m = made_first x h in ap F.reading left ∙ m.reading ∙ ap reads (sym m.list)
 
-  pub second_refused : (x : X) → First (Ok x) → (v : Fault) → Second (Err v) → Answer (Err v)
-  second_refused x k v h =
-      let r : F.reading (take F.slots ss) ≡ reads (made_first x k).xs = ap F.reading left ∙ (made_first x k).reading in
-      rw r
-      (form_err (pair_slices f g) (PairKept f F.slots p q) ws ss g q ws (slices_within w d b G.slots) a b F.slots (G.reading (drop F.slots ss)) _ v e
-      (subst (λ rs. form_answer g q ws (slices_within w d b G.slots) b (G.reading rs) (Err v)) (sym right) (h there_second none_second)))
+    pub second_refused : (v : Fault) → Second (Err v) → (o : Result (PairForm X Y) Fault) → o ≡ Err v → Answer o
+    second_refused v k o i =
+        rw (i, reads_first)
+        (form_err (pair_slices l r) (PairKept l r F.slots) ws ss r.slices r.kept ws rs a b F.slots (G.reading (drop F.slots ss)) _ v e
+        (subst (λ us. FormAnswer r.slices r.kept ws rs b (G.reading us) (Err v)) (sym right) (k there_second none_second)))
 
-  module _ (x : X) (h : First (Ok x)) (y : Y) (k : Second (Ok y)) where
-    reads_both : (pair_format F G).reading ss ≡ reading_within (eqb (length (list_of F (f x ws))) (length (list_of G (g y ws)))) (tuples (list_of F (f x ws)) (list_of G (g y ws)))
-    reads_both =
-        let l = made_first x h in
-        let r = made_second y k in
-        rw (ap F.reading left ∙ l.reading, ap G.reading right ∙ r.reading, l.list, r.list)
+    -- m and n elements, as the sides' forms count them where they stand
+    module _ (y : Y) (k : Second (Ok y)) (m n : ℕ) (c : (vs : List ℕ) → Stands l.slices l.kept F x vs → m ≡ length (list_of F (l.slices x vs))) (d : (vs : List ℕ) → Stands r.slices r.kept G y vs → n ≡ length (list_of G (r.slices y vs))) where
+      reads_both : (pair_format F G).reading ss ≡ reading_within (eqb m n) (zip (list_of F (l.slices x ws)) (list_of G (r.slices y ws)))
+      reads_both =
+          let u = made_first x h in
+          let v = made_second y k in
+          rw (reads_first, ap G.reading right ∙ v.reading, ← v.list, c ws u.stands, d ws v.stands)
 
-    pub uneven : (length (list_of F (f x ws)) ≡ length (list_of G (g y ws)) → ⊥) → (v : Fault) → v ≡ refuse SliceContent a → Answer (Err v)
-    uneven n v i = rw reads_both (bounds_err (pair_slices f g) (PairKept f F.slots p q) ws ss a _ _ v (ne_eqb _ _ n) i)
+      pub uneven : (m ≡ n → ⊥) → (v : Fault) → v ≡ refuse SliceContent a → Answer (Err v)
+      uneven f v i = rw reads_both (bounds_err (pair_slices l r) (PairKept l r F.slots) ws ss a _ _ v (ne_eqb m n f) i)
 
-    pub even : length (list_of F (f x ws)) ≡ length (list_of G (g y ws)) → Answer (Ok (record { first = x; second = y }))
-    even n =
-        let l = made_first x h in
-        let r = made_second y k in
-        rw reads_both
-        (bounds_ok (pair_slices f g) (PairKept f F.slots p q) ws ss a _ _ _ (eq-eqb _ _ n)
-        (record { left = l.keeps; right = r.keeps; count = ap length l.of ∙ there_count w d a F.slots there_first })
-        (ap₂ ◌++◌ (l.of ∙ sym left) (r.of ∙ sym right) ∙ take-append-drop F.slots ss))
+      pub even : m ≡ n → Answer (Ok (record { first = x; second = y }))
+      even f =
+          let u = made_first x h in
+          let v = made_second y k in
+          rw reads_both
+          (bounds_ok (pair_slices l r) (PairKept l r F.slots) ws ss a _ _ _ (eq-eqb m n f)
+          (record { first = u.keeps; second = v.keeps; count = ap length u.of ∙ there_count ws a F.slots there_first })
+          (ap₂ ◌++◌ (u.of ∙ sym left) (v.of ∙ sym right) ∙ take-append-drop F.slots ss))

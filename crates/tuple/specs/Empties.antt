@@ -1,8 +1,12 @@
 -- Empties: one word, the count of elements that hold nothing.
-use Rattle.std.specs.Prelude.{Bool, List, [], ◌∷◌, length, take, replicate, nat_le, nat_lt}
+use Rattle.std.specs.Prelude.{ℕ, min, Bool, List, [], ◌∷◌, length, take, replicate, nat_le, nat_lt}
 use Rattle.area.specs.Slice.{of_words}
 use Rattle.column.specs.Column.{Areas}
 use Rattle.column.specs.Kind.{Format, L, slot, word_of, least_words, reading_within}
+
+-- A list of n elements that hold nothing. A count is a u32, at most L, but a number of the logic has no width.
+abbrev pub empties_list : ℕ → List (Unit {0})
+empties_list n = replicate (min n L) tt
 
 abbrev pub empties_format : Format (Unit {0})
 empties_format = record {

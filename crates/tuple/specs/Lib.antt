@@ -1,3 +1,5 @@
 pub mod Empties
+pub mod EmptiesLaws
 pub mod Pair
+pub mod PairLaws
 pub mod Form

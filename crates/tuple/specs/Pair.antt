@@ -1,20 +1,19 @@
 -- A pair: tuples, as the slices of the firsts and then those of the seconds.
-use Rattle.std.specs.Prelude.{◌≡◌, ◌+◌, Bool, false, ◌&&◌, List, [], ◌∷◌, ◌++◌, map, length, take, drop, ◌==◌}
-use Rattle.tuple.specs.declared.pair.Pair.{Pair}
+use Rattle.std.specs.Prelude.{ℕ, ◌+◌, ◌-◌, min, Bool, false, cond, ◌&&◌, List, ◌++◌, map, length, take, drop, zip, Ok, Err, Result, ◌==◌, nat_lt}
+use Rattle.area.specs.Fault.{refuse}
+use Rattle.area.specs.Slice.{Slice}
+use Rattle.area.specs.declared.fault.Fault.{Fault}
+use Rattle.area.specs.declared.fault.Refusal.TheVariants.{OutOfRange}
 use Rattle.column.specs.Column.{Areas, none, cells, beside}
-use Rattle.column.specs.Kind.{Format, first_refused, further, after, reading_within}
+use Rattle.column.specs.Kind.{CAP, Format, first_refused, further, after, reading_within}
+use Rattle.tuple.specs.declared.pair.Side.{Side}
+use Rattle.tuple.specs.declared.pair.Side.TheVariants.{First, Second}
 
 abbrev pub firsts : {A B : Type 0} → List (A × B) → List A
 firsts = map (λ p. p.0)
 
 abbrev pub seconds : {A B : Type 0} → List (A × B) → List B
 seconds = map (λ p. p.1)
-
--- the tuples of two lists, up to the end of the shorter
-abbrev pub tuples : {A B : Type 0} → List A → List B → List (A × B)
-tuples [] rs = []
-tuples (l ∷ ls) [] = []
-tuples (l ∷ ls) (r ∷ rs) = (l, r) ∷ tuples ls rs
 
 abbrev pub pair_format : {A B : Type 0} → Format A → Format B → Format (A × B)
 pair_format A B = record {
@@ -23,7 +22,7 @@ pair_format A B = record {
   sized = λ ss. first_refused (A.sized (take A.slots ss)) (further A.slots (B.sized (drop A.slots ss)));
   reading = λ ss. after 0 (A.reading (take A.slots ss)) (λ ls.
       after A.slots (B.reading (drop A.slots ss)) (λ rs.
-      reading_within (length ls == length rs) (tuples ls rs)));
+      reading_within (length ls == length rs) (zip ls rs)));
   giving = λ ss. A.giving (take A.slots ss) ++ B.giving (drop A.slots ss);
 }
 
@@ -33,12 +32,6 @@ pair_takes f g none xs x = false
 pair_takes f g (cells n) xs x = false
 pair_takes f g (beside a b) xs x = f a (firsts xs) x.0 && g b (seconds xs) x.1
 
--- a pair of columns whose lists are read by f and g
-module _ {A B X Y : Type 0} (f : A → List X) (g : B → List Y) where
-  abbrev pub pair_list : Pair A B → List (X × Y)
-  pair_list c = tuples (f c.first) (g c.second)
-
-  pub record PairSound (s : A → Type 0) (t : B → Type 0) (c : Pair A B) : Type 0 where
-    pub left : s c.first
-    pub right : t c.second
-    pub level : length (f c.first) ≡ length (g c.second)
+-- the side that slice k of a pair is of, ss being the first side's: refusal 10 where no image has so many slices
+abbrev pub side_of : List Slice → ℕ → Result Side Fault
+side_of ss k = cond (nat_lt k (min (length ss) CAP)) (Ok (First k)) (cond (nat_lt k CAP) (Ok (Second (k - length ss))) (Err (refuse OutOfRange 0)))

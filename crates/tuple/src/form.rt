@@ -1,31 +1,41 @@
 // The read forms of empties and of pairs.
-ghost use Rattle.std.specs.Prelude.{◌≡◌, ℕ, List, [], ◌∷◌, ◌++◌};
-ghost use Rattle.decode.specs.Decode.{Inside, slice_in};
+ghost use Rattle.std.specs.Prelude.{◌≡◌, ℕ, List, [], ◌∷◌, ◌++◌, zip};
+ghost use Rattle.decode.specs.Decode.{slice_in};
+ghost use Rattle.read.specs.Form.{list_of};
 ghost use Rattle.tuple.specs.Form.{EmptiesKept, PairKept, pair_slices};
+ghost use Rattle.tuple.specs.Pair.{pair_format};
 
 use crate::empties::Empties;
 use crate::pair::Pair;
 use area::fault::{Fault, Refusal};
-use column::kind::{Kind, MAX_LEN, MAX_WORDS};
+use column::kind::{AsBytes, Index, Kind};
 use decode::decoded::DecodedStore;
 use decode::span::Span;
-use read::form::FromBytes;
+use read::form::{FromBytes, ReadForm};
+use read::view::View;
+use std::marker::PhantomData;
 use storage::store::Store;
 
 // The place of the count, and the count.
 #[derive(Clone, Copy)]
 pub struct EmptiesForm {
     place: Span,
-    count: u64,
+    count: Empties,
 }
 
-impl FromBytes for Empties {
+impl ReadForm for Empties {
+    ghost use Rattle.std.proofs.Props.{props};
+
     type Form = EmptiesForm;
 
     ghost slices = { λ t ws. slice_in ws t.place ∷ [] };
 
     ghost kept = { λ t ws. EmptiesKept t ws };
 
+    ghost kept_prop = { λ t ws. Prim.hlevel props };
+}
+
+impl FromBytes for Empties {
     fn sized<S: Store>(image: &DecodedStore<S>, at: usize) -> Result<(), Fault> {
         if image.get(at)?.words() < 1 {
             return Err(Fault::at(Refusal::SliceSize, at));
@@ -35,42 +45,35 @@ impl FromBytes for Empties {
 
     fn form<S: Store>(image: &DecodedStore<S>, at: usize) -> Result<EmptiesForm, Fault> {
         let place = image.get(at)?;
-        let count = place.word(image.store(), 0)?;
-        if count > MAX_LEN as u64 {
+        let word = place.word(image.store(), 0)?;
+        let Ok(count) = u32::try_from(word) else {
             return Err(Fault::at(Refusal::SliceContent, at));
-        }
-        Ok(EmptiesForm { place, count })
+        };
+        Ok(EmptiesForm {
+            place,
+            count: Empties { count },
+        })
     }
 
     fn form_len(form: &EmptiesForm) -> usize {
-        form.count as usize
+        form.count.len()
     }
 
-    fn form_get<S: Store>(form: &EmptiesForm, _store: &S, i: usize) -> Result<(), Fault> {
-        if i >= form.count as usize {
-            return Err(Fault::at_start(Refusal::OutOfRange));
-        }
-        Ok(())
+    fn view_get<S: Store>(view: &View<'_, '_, Empties, S>, i: usize) -> Result<(), Fault> {
+        view.form.count.get(i)
     }
 
-    fn form_slice_len(_form: &EmptiesForm, k: usize) -> Result<usize, Fault> {
-        if k > 0 {
-            return Err(Fault::at_start(Refusal::OutOfRange));
-        }
-        Ok(8)
+    fn view_slice_len<S: Store>(view: &View<'_, '_, Empties, S>, k: usize) -> Result<usize, Fault> {
+        view.form.count.slice_len(k)
     }
 
     // One word, whatever follows the count.
-    fn form_slice_word<S: Store>(
-        form: &EmptiesForm,
-        _store: &S,
+    fn view_slice_word<S: Store>(
+        view: &View<'_, '_, Empties, S>,
         k: usize,
         i: usize,
     ) -> Result<u64, Fault> {
-        if k > 0 || i > 0 {
-            return Err(Fault::at_start(Refusal::OutOfRange));
-        }
-        Ok(form.count)
+        view.form.count.slice_word(k, i)
     }
 }
 
@@ -81,13 +84,39 @@ pub struct PairForm<F, G> {
     second: G,
 }
 
-impl<A: FromBytes, B: FromBytes> FromBytes for Pair<A, B> {
+impl<A: ReadForm + Index, B: ReadForm + Index> ReadForm for Pair<A, B> {
+    ghost use Rattle.std.proofs.Props.{props};
+
     type Form = PairForm<A::Form, B::Form>;
 
-    ghost slices = { λ t ws. pair_slices A.FromBytes.slices B.FromBytes.slices t ws };
+    ghost slices = { λ t ws. pair_slices A.ReadForm.own B.ReadForm.own t ws };
 
-    ghost kept = { λ t ws. PairKept A.FromBytes.slices A.Kind.format.slots A.FromBytes.kept B.FromBytes.kept t ws };
+    ghost kept = { λ t ws. PairKept A.ReadForm.own B.ReadForm.own A.Kind.format.slots t ws };
 
+    ghost kept_prop = { λ t ws. Prim.hlevel (props, A.ReadForm.kept_prop, B.ReadForm.kept_prop) };
+}
+
+// The views of the two sides, side by side.
+fn sides<'f, 's, A: FromBytes + Index, B: FromBytes + Index, S: Store>(
+    view: View<'f, 's, Pair<A, B>, S>,
+) -> Pair<View<'f, 's, A, S>, View<'f, 's, B, S>>
+    ensures list { zip (⟦<View<'f, 's, A, S> as Index>⟧.list result.first) (⟦<View<'f, 's, B, S> as Index>⟧.list result.second) ≡ list_of (pair_format A.Kind.format B.Kind.format) (pair_slices A.ReadForm.own B.ReadForm.own view.entry.form.now (S.Store.words view.entry.store.now)) }
+    ensures slices { ⟦<View<'f, 's, A, S> as AsBytes>⟧.slices result.first ++ ⟦<View<'f, 's, B, S> as AsBytes>⟧.slices result.second ≡ (pair_format A.Kind.format B.Kind.format).giving (pair_slices A.ReadForm.own B.ReadForm.own view.entry.form.now (S.Store.words view.entry.store.now)) }
+{
+    let first = View {
+        form: &view.form.first,
+        store: view.store,
+        of: PhantomData,
+    };
+    let second = View {
+        form: &view.form.second,
+        store: view.store,
+        of: PhantomData,
+    };
+    Pair { first, second }
+}
+
+impl<A: FromBytes + Index, B: FromBytes + Index> FromBytes for Pair<A, B> {
     fn sized<S: Store>(image: &DecodedStore<S>, at: usize) -> Result<(), Fault> {
         A::sized(image, at)?;
         B::sized(image, at.saturating_add(A::slice_count()))
@@ -109,42 +138,25 @@ impl<A: FromBytes, B: FromBytes> FromBytes for Pair<A, B> {
         A::form_len(&form.first)
     }
 
-    fn form_get<S: Store>(
-        form: &PairForm<A::Form, B::Form>,
-        store: &S,
+    fn view_get<S: Store>(
+        view: &View<'_, '_, Pair<A, B>, S>,
         i: usize,
     ) -> Result<(A::Elem, B::Elem), Fault> {
-        let x = A::form_get(&form.first, store, i)?;
-        let y = B::form_get(&form.second, store, i)?;
-        Ok((x, y))
+        sides(*view).get(i)
     }
 
-    fn form_slice_len(form: &PairForm<A::Form, B::Form>, k: usize) -> Result<usize, Fault> {
-        A::lawful();
-        let n = A::slice_count();
-        if k < n {
-            return A::form_slice_len(&form.first, k);
-        }
-        if k >= MAX_WORDS {
-            return Err(Fault::at_start(Refusal::OutOfRange));
-        }
-        B::form_slice_len(&form.second, k - n)
+    fn view_slice_len<S: Store>(
+        view: &View<'_, '_, Pair<A, B>, S>,
+        k: usize,
+    ) -> Result<usize, Fault> {
+        sides(*view).slice_len(k)
     }
 
-    fn form_slice_word<S: Store>(
-        form: &PairForm<A::Form, B::Form>,
-        store: &S,
+    fn view_slice_word<S: Store>(
+        view: &View<'_, '_, Pair<A, B>, S>,
         k: usize,
         i: usize,
     ) -> Result<u64, Fault> {
-        A::lawful();
-        let n = A::slice_count();
-        if k < n {
-            return A::form_slice_word(&form.first, store, k, i);
-        }
-        if k >= MAX_WORDS {
-            return Err(Fault::at_start(Refusal::OutOfRange));
-        }
-        B::form_slice_word(&form.second, store, k - n, i)
+        sides(*view).slice_word(k, i)
     }
 }

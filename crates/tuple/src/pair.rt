@@ -1,24 +1,31 @@
 // A pair of columns: tuples, one side in each.
-ghost use Rattle.std.specs.Prelude.{◌≡◌, List, [], ◌++◌};
+ghost use Rattle.std.specs.Prelude.{◌≡◌, List, [], ◌++◌, length, zip};
 ghost use Rattle.column.specs.Column.{beside};
-ghost use Rattle.tuple.specs.Pair.{PairSound, pair_list, pair_format, pair_takes};
+ghost use Rattle.tuple.specs.Pair.{pair_format, pair_takes, side_of};
+ghost use Rattle.tuple.specs.PairLaws.{pair_held, pair_laws, pair_written};
 
 use area::fault::{Fault, Refusal};
 use column::element::Value;
 use column::kind::{AsBytes, Column, Index, Kind, MAX_WORDS};
 
 #[derive(Drop)]
-pub struct Pair<A, B> {
-    first: A,
-    second: B,
+pub struct Pair<A: Index, B: Index> {
+    pub(crate) first: A,
+    pub(crate) second: B,
+    ghost level: { length (A.Index.list first) ≡ length (B.Index.list second) },
+}
+
+// The side that a slice is of, with its number there.
+enum Side {
+    First(usize),
+    Second(usize),
 }
 
 impl<A: Column, B: Column> Pair<A, B> {
     // An empty pair; what the sides held is cleared.
     pub fn new(mut first: A, mut second: B) -> Pair<A, B>
-        ensures keeps { A.Index.sound first → B.Index.sound second → PairSound A.Index.list B.Index.list A.Index.sound B.Index.sound result }
-        ensures after { A.Index.sound first → B.Index.sound second → pair_list A.Index.list B.Index.list result ≡ [] }
-        ensures same { A.Index.sound first → B.Index.sound second → (A.Column.areas result.first ≡ A.Column.areas first) × (B.Column.areas result.second ≡ B.Column.areas second) }
+        ensures after { zip (A.Index.list result.first) (B.Index.list result.second) ≡ [] }
+        ensures same { (A.Column.areas result.first ≡ A.Column.areas first) × (B.Column.areas result.second ≡ B.Column.areas second) }
     {
         first.clear();
         second.clear();
@@ -29,18 +36,29 @@ impl<A: Column, B: Column> Pair<A, B> {
 impl<A: Index, B: Index> Index for Pair<A, B> {
     type Item = (A::Item, B::Item);
 
-    ghost sound = { λ c. PairSound A.Index.list B.Index.list A.Index.sound B.Index.sound c };
-
-    ghost list = { λ c. pair_list A.Index.list B.Index.list c };
+    ghost list = { λ c. zip (A.Index.list c.first) (B.Index.list c.second) };
 
     fn len(&self) -> usize {
         self.first.len()
     }
 
     fn get(&self, i: usize) -> Result<(A::Item, B::Item), Fault> {
-        let x = self.first.get(i)?;
-        let y = self.second.get(i)?;
-        Ok((x, y))
+        Ok((self.first.get(i)?, self.second.get(i)?))
+    }
+}
+
+impl<A: AsBytes, B: AsBytes> Pair<A, B> {
+    fn side(&self, k: usize) -> Result<Side, Fault>
+        ensures { result ≡ side_of (A.AsBytes.slices self.now.first) k }
+    {
+        let n = self.first.slices();
+        if k < n {
+            return Ok(Side::First(k));
+        }
+        if k >= MAX_WORDS {
+            return Err(Fault::at_start(Refusal::OutOfRange));
+        }
+        Ok(Side::Second(k - n))
     }
 }
 
@@ -55,42 +73,31 @@ impl<A: AsBytes, B: AsBytes> AsBytes for Pair<A, B> {
     }
 
     fn slice_len(&self, k: usize) -> Result<usize, Fault> {
-        let n = self.first.slices();
-        if k < n {
-            return self.first.slice_len(k);
+        match self.side(k)? {
+            Side::First(j) => self.first.slice_len(j),
+            Side::Second(j) => self.second.slice_len(j),
         }
-        if k >= MAX_WORDS {
-            return Err(Fault::at_start(Refusal::OutOfRange));
-        }
-        self.second.slice_len(k - n)
     }
 
     fn slice_word(&self, k: usize, i: usize) -> Result<u64, Fault> {
-        let n = self.first.slices();
-        if k < n {
-            return self.first.slice_word(k, i);
+        match self.side(k)? {
+            Side::First(j) => self.first.slice_word(j, i),
+            Side::Second(j) => self.second.slice_word(j, i),
         }
-        if k >= MAX_WORDS {
-            return Err(Fault::at_start(Refusal::OutOfRange));
-        }
-        self.second.slice_word(k - n, i)
     }
 }
 
-impl<A: Kind, B: Kind> Kind for Pair<A, B> {
+impl<A: Kind + Index, B: Kind + Index> Kind for Pair<A, B> {
     type Elem = (A::Elem, B::Elem);
 
     ghost format = { pair_format A.Kind.format B.Kind.format };
+
+    ghost laws = { pair_laws A.Kind.laws B.Kind.laws };
 
     fn slice_count() -> usize {
         A::slice_count()
             .saturating_add(B::slice_count())
             .min(MAX_WORDS)
-    }
-
-    fn lawful() {
-        A::lawful();
-        B::lawful();
     }
 }
 
@@ -99,10 +106,9 @@ impl<A: Column, B: Column> Column for Pair<A, B> {
 
     ghost takes = { pair_takes A.Column.takes B.Column.takes };
 
-    fn upholds(&self) {
-        self.first.upholds();
-        self.second.upholds();
-    }
+    ghost held = { λ c. pair_held _ _ c.level A.Elem.Value.fits B.Elem.Value.fits (A.Column.held c.first) (B.Column.held c.second) };
+
+    ghost written = { λ c. pair_written _ _ c.level A.Kind.format B.Kind.format _ _ (A.Column.written c.first) (B.Column.written c.second) };
 
     fn takes(&self, x: (A::Elem, B::Elem)) -> bool {
         self.first.takes(x.0) && self.second.takes(x.1)
@@ -110,6 +116,7 @@ impl<A: Column, B: Column> Column for Pair<A, B> {
 
     // Neither side moves where one does not take its part.
     fn push(&mut self, x: (A::Elem, B::Elem)) -> Result<(), Fault> {
+        // That both parts fit is promised whatever is answered.
         x.known();
         if !self.takes(x) {
             return Err(Fault::at_start(Refusal::NotTaken));

@@ -1,60 +1,71 @@
 // The worked examples of the format, run: each line is an image, or what a call answers.
 #![tactic(auto)]
 
-use area::fault::Fault;
 use boolean::bools::*;
 use column::append::append;
 use column::element::*;
 use column::kind::*;
 use column::run::*;
 use indexed::encode;
-use indexed::write::{WriteFault, write};
+use indexed::write::write;
 use offsets::strides::*;
-use std::io;
+use std::{fmt, io};
 use storage::write::*;
 use tuple::empties::*;
 use tuple::pair::*;
 
-// Prints a name and the image of `item`, or its refusal.
+// What prints stands in each program: a function of a library that only prints has nothing to promise.
+
+// Prints a name and an answer, or its refusal.
+fn told<T: fmt::Display + Drop, E: fmt::Display + Drop>(
+    rt: &HostRuntime,
+    name: &str,
+    answer: Result<T, E>,
+) -> io::Result<()> {
+    match answer {
+        Ok(told) => println!(rt; "{name}: {told}"),
+        Err(fault) => println!(rt; "{name}: {fault}"),
+    }
+}
+
+// The same of a call that gives nothing.
+fn done<E: fmt::Display + Drop>(
+    rt: &HostRuntime,
+    name: &str,
+    answer: Result<(), E>,
+) -> io::Result<()> {
+    told(rt, name, answer.map(|()| "ok"))
+}
+
+// The same of numbers, in hexadecimal.
+fn hex<T: fmt::Radix + Copy>(rt: &HostRuntime, name: &str, numbers: &[T]) -> io::Result<()> {
+    print!(rt; "{name}:")?;
+    for n in numbers {
+        print!(rt; " {n:x}")?;
+    }
+    println!(rt; "")
+}
+
+// The image of `item`.
 fn show<A: AsBytes>(rt: &HostRuntime, name: &str, item: &A) -> io::Result<()> {
     let mut area = [0u64; 32];
     match encode(item, &mut area, 0) {
-        Ok(words) => {
-            print!(rt; "{name}:")?;
-            for w in area.iter().take(words) {
-                print!(rt; " {w:x}")?;
-            }
-            println!(rt; "")
-        }
-        Err(fault) => refused(rt, name, fault),
+        Ok(words) => hex(rt, name, &area[..words]),
+        Err(fault) => println!(rt; "{name}: {fault}"),
     }
 }
 
-fn refused(rt: &HostRuntime, name: &str, fault: Fault) -> io::Result<()> {
-    let number = fault.refusal.number();
-    let place = fault.place;
-    println!(rt; "{name}: refused {number} {place}")
-}
-
-// Prints the answer of a call that gives nothing.
-fn told(rt: &HostRuntime, name: &str, answer: Result<(), Fault>) -> io::Result<()> {
-    match answer {
-        Ok(()) => println!(rt; "{name}: ok"),
-        Err(fault) => refused(rt, name, fault),
+fn bounds_of(rt: &HostRuntime, ends: &Strides, i: usize) -> io::Result<()> {
+    match ends.bounds(i) {
+        Ok((lower, upper)) => println!(rt; "bounds {i}: {lower} {upper}"),
+        Err(fault) => println!(rt; "bounds {i}: {fault}"),
     }
 }
 
-fn told_bounds(rt: &HostRuntime, name: &str, answer: Result<(u64, u64), Fault>) -> io::Result<()> {
-    match answer {
-        Ok((lower, upper)) => println!(rt; "{name}: {lower} {upper}"),
-        Err(fault) => refused(rt, name, fault),
-    }
-}
-
-fn told_bits(rt: &HostRuntime, name: &str, answer: Result<u64, Fault>) -> io::Result<()> {
-    match answer {
-        Ok(bits) => println!(rt; "{name}: {bits:x}"),
-        Err(fault) => refused(rt, name, fault),
+fn bits_of(rt: &HostRuntime, marks: &Bools<Run<u64>>, pos: usize, count: usize) -> io::Result<()> {
+    match marks.bits_at(pos, count) {
+        Ok(bits) => println!(rt; "bits_at {pos} {count}: {bits:x}"),
+        Err(fault) => println!(rt; "bits_at {pos} {count}: {fault}"),
     }
 }
 
@@ -65,11 +76,11 @@ fn strides(rt: &HostRuntime) -> io::Result<()> {
         let _ = c.push(x);
     }
     show(rt, "3 6 9 10", &c)?;
-    told_bounds(rt, "bounds 0", c.bounds(0))?;
-    told_bounds(rt, "bounds 3", c.bounds(3))?;
-    told_bounds(rt, "bounds 4", c.bounds(4))?;
-    told(rt, "a second bound", c.push(15))?;
-    told(rt, "a third bound", c.push(18))?;
+    bounds_of(rt, &c, 0)?;
+    bounds_of(rt, &c, 3)?;
+    bounds_of(rt, &c, 4)?;
+    done(rt, "a second bound", c.push(15))?;
+    done(rt, "a third bound", c.push(18))?;
     c.clear();
     for _ in 0..3 {
         let _ = c.push(0);
@@ -87,16 +98,16 @@ fn bools(rt: &HostRuntime) -> io::Result<()> {
     for _ in 0..62 {
         let _ = c.push(false);
     }
-    told(rt, "push_bits 7 3", c.push_bits(7, 3))?;
+    done(rt, "push_bits 7 3", c.push_bits(7, 3))?;
     show(rt, "62 false and 7 3", &c)?;
-    told(rt, "push_bits 2 1", c.push_bits(2, 1))?;
-    told(rt, "push_bits 0 65", c.push_bits(0, 65))?;
-    told(rt, "push_bits past the cell", c.push_bits(1, 64))?;
-    told(rt, "push_bits 0 0", c.push_bits(0, 0))?;
-    told_bits(rt, "bits_at 61 4", c.bits_at(61, 4))?;
-    told_bits(rt, "bits_at 62 4", c.bits_at(62, 4))?;
-    told_bits(rt, "bits_at 0 65", c.bits_at(0, 65))?;
-    told_bits(rt, "bits_at 66 0", c.bits_at(66, 0))
+    done(rt, "push_bits 2 1", c.push_bits(2, 1))?;
+    done(rt, "push_bits 0 65", c.push_bits(0, 65))?;
+    done(rt, "push_bits past the cell", c.push_bits(1, 64))?;
+    done(rt, "push_bits 0 0", c.push_bits(0, 0))?;
+    bits_of(rt, &c, 61, 4)?;
+    bits_of(rt, &c, 62, 4)?;
+    bits_of(rt, &c, 0, 65)?;
+    bits_of(rt, &c, 66, 0)
 }
 
 fn small(rt: &HostRuntime) -> io::Result<()> {
@@ -106,7 +117,7 @@ fn small(rt: &HostRuntime) -> io::Result<()> {
         let _ = bytes.push(x);
     }
     show(rt, "bytes 1 2 3", &bytes)?;
-    told(rt, "a fourth byte", bytes.push(4))?;
+    done(rt, "a fourth byte", bytes.push(4))?;
     let mut empties = Empties::new();
     for _ in 0..7 {
         let _ = empties.push(());
@@ -129,9 +140,9 @@ fn appends(rt: &HostRuntime) -> io::Result<()> {
         let _ = words.push(x);
     }
     let mut strides = Strides::new(Run::new(&mut b));
-    told(rt, "words 0 to 4", append(&mut strides, &words, 0, 4))?;
-    told(rt, "words 3 to 1", append(&mut strides, &words, 3, 1))?;
-    told(rt, "words 5 to 5", append(&mut strides, &words, 5, 5))?;
+    done(rt, "words 0 to 4", append(&mut strides, &words, 0, 4))?;
+    done(rt, "words 3 to 1", append(&mut strides, &words, 3, 1))?;
+    done(rt, "words 5 to 5", append(&mut strides, &words, 5, 5))?;
     show(rt, "words appended", &strides)?;
     append_bytes(rt)?;
     append_bits(rt)?;
@@ -146,8 +157,8 @@ fn append_bytes(rt: &HostRuntime) -> io::Result<()> {
         let _ = from.push(x);
     }
     let mut to = Run::new(&mut b);
-    told(rt, "bytes 1 to 3", append(&mut to, &from, 1, 3))?;
-    told(rt, "bytes 0 to 4", append(&mut to, &from, 0, 4))?;
+    done(rt, "bytes 1 to 3", append(&mut to, &from, 1, 3))?;
+    done(rt, "bytes 0 to 4", append(&mut to, &from, 0, 4))?;
     show(rt, "bytes appended", &to)
 }
 
@@ -158,15 +169,15 @@ fn append_bits(rt: &HostRuntime) -> io::Result<()> {
     let _ = from.push_bits(0xff00_ff00_ff00_ff00, 64);
     let _ = from.push_bits(5, 3);
     let mut to = Bools::new(Strides::new(Run::new(&mut b)));
-    told(rt, "bools 8 to 67", append(&mut to, &from, 8, 67))?;
+    done(rt, "bools 8 to 67", append(&mut to, &from, 8, 67))?;
     show(rt, "bools appended", &to)?;
-    told(rt, "bools 0 to 67", append(&mut to, &from, 0, 67))?;
+    done(rt, "bools 0 to 67", append(&mut to, &from, 0, 67))?;
     let mut some = Empties::new();
     for _ in 0..3 {
         let _ = some.push(());
     }
     let mut more = Empties::new();
-    told(rt, "empties 1 to 3", append(&mut more, &some, 1, 3))?;
+    done(rt, "empties 1 to 3", append(&mut more, &some, 1, 3))?;
     show(rt, "empties appended", &more)
 }
 
@@ -180,29 +191,8 @@ fn append_tuples(rt: &HostRuntime) -> io::Result<()> {
         let _ = from.push(x);
     }
     let mut to = Pair::new(Strides::new(Run::new(&mut c)), Run::new(&mut d));
-    told(rt, "tuples 0 to 3", append(&mut to, &from, 0, 3))?;
+    done(rt, "tuples 0 to 3", append(&mut to, &from, 0, 3))?;
     show(rt, "tuples appended", &to)
-}
-
-// Prints the answer of a write.
-fn told_write<F: Drop>(
-    rt: &HostRuntime,
-    name: &str,
-    answer: Result<(), WriteFault<F>>,
-) -> io::Result<()> {
-    match answer {
-        Ok(()) => println!(rt; "{name}: ok"),
-        Err(WriteFault::TooLong(fault)) => refused(rt, name, fault),
-        Err(WriteFault::Full(fault, _)) => refused(rt, name, fault),
-    }
-}
-
-fn show_bytes(rt: &HostRuntime, name: &str, bytes: &[u8]) -> io::Result<()> {
-    print!(rt; "{name}:")?;
-    for b in bytes {
-        print!(rt; " {b:x}")?;
-    }
-    println!(rt; "")
 }
 
 // The image of three bytes, given to a byte area, to a word area, and to a quota that is short in its third piece.
@@ -213,25 +203,24 @@ fn sinks(rt: &HostRuntime) -> io::Result<()> {
         let _ = bytes.push(x);
     }
     let mut area = [0xffu8; 26];
-    told_write(
+    done(
         rt,
         "to a byte area",
         write(&bytes, &mut ByteSink::new(&mut area)),
     )?;
-    show_bytes(rt, "byte area", &area)?;
+    hex(rt, "byte area", &area)?;
     let mut words = [0xffu64; 4];
-    told_write(
+    done(
         rt,
         "to a word area",
         write(&bytes, &mut WordSink::new(&mut words)),
     )?;
-    let [a, b, c, d] = words;
-    println!(rt; "word area: {a:x} {b:x} {c:x} {d:x}")?;
+    hex(rt, "word area", &words)?;
     let mut short = [0xffu8; 18];
     let mut quota = Quota::new(ByteSink::new(&mut short), 18);
-    told_write(rt, "to a quota", write(&bytes, &mut quota))?;
+    done(rt, "to a quota", write(&bytes, &mut quota))?;
     drop(quota);
-    show_bytes(rt, "under the quota", &short)
+    hex(rt, "under the quota", &short)
 }
 
 fn main(rt: HostRuntime) -> io::Result<()> {

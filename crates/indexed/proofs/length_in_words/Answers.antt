@@ -4,37 +4,30 @@ use Rattle.indexed.proofs.ImageLemmas.{length-image, weight-take, weight_turn, e
 use Rattle.indexed.proofs.length_in_words.Goals as goal
 
 pub returns-then-count-ge-MAX_WORDS : goal.returns-then-count-ge-MAX_WORDS
-returns-then-count-ge-MAX_WORDS g c s =
-    too_long (g.A.AsBytes.slices c.args.item.now) _ c.at_start.ensures
-    (omega (arith, length-image (g.A.AsBytes.slices c.args.item.now), c.slices-count.ensures.count s))
-
-pub loop-k-init : goal.loop-k-init
-loop-k-init g c = (omega arith, λ s. omega (arith, c.slices-count.ensures.count s))
+returns-then-count-ge-MAX_WORDS g c =
+    let ss = g.A.AsBytes.slices c.args.item.now in
+    too_long ss _ c.at_start.ensures (omega (arith, length-image ss, c.slices-count.ensures.count))
 
 pub returns-in_err-slice_len : goal.returns-in_err-slice_len
-returns-in_err-slice_len g c s =
-    exit_long (g.A.AsBytes.slices c.args.item.now) c.loop-k.k c.in_err-slice_len.field-0.0 c.from_residual.ensures.1 (c.slices-count.ensures.formed s) (omega (arith, c.slices-count.ensures.count s)) (c.in_err-slice_len.ensures s)
-
-pub overflow_sub-total : goal.overflow_sub-total
-overflow_sub-total g c = c.loop-k.invariant.0
+returns-in_err-slice_len g c =
+    exit_long (g.A.AsBytes.slices c.args.item.now) c.loop-k.k c.in_err-slice_len.field-0.0 c.from_residual.ensures.1 c.slices-count.ensures.formed (omega (arith, c.slices-count.ensures.count)) c.in_err-slice_len.ensures
 
 pub returns-then-words-total : goal.returns-then-words-total
-returns-then-words-total g c s =
-    let t = weight_turn (g.A.AsBytes.slices c.args.item.now) c.loop-k.k _ _ (c.slices-count.ensures.formed s) (c.in_ok-slice_len.ensures s) c.saturating_add-words.ensures in
-    too_long (g.A.AsBytes.slices c.args.item.now) _ c.at_start-then-words-total.ensures
-    (omega (arith, t, c.loop-k.invariant.1 s, length-image (g.A.AsBytes.slices c.args.item.now), weight-take (g.A.AsBytes.slices c.args.item.now) (c.loop-k.k + 1)))
-
-pub overflow_add-total-in-loop-k : goal.overflow_add-total-in-loop-k
-overflow_add-total-in-loop-k g c = omega (arith, c.loop-k.invariant.0)
+returns-then-words-total g c =
+    let ss = g.A.AsBytes.slices c.args.item.now in
+    let t = weight_turn ss c.loop-k.k _ _ c.slices-count.ensures.formed c.in_ok-slice_len.ensures c.div_ceil-words.ensures in
+    too_long ss _ c.at_start-then-words-total.ensures
+    (omega (arith, t, c.loop-k.invariant.counted, length-image ss, weight-take ss (c.loop-k.k + 1)))
 
 pub loop-k-preserved : goal.loop-k-preserved
-loop-k-preserved g c = (
-  omega (arith, c.loop-k.invariant.0),
-  λ s. omega (arith, c.loop-k.invariant.1 s, weight_turn (g.A.AsBytes.slices c.args.item.now) c.loop-k.k _ _ (c.slices-count.ensures.formed s) (c.in_ok-slice_len.ensures s) c.saturating_add-words.ensures),
-)
+loop-k-preserved g c =
+    record {
+      short = omega arith;
+      counted = omega (arith, c.loop-k.invariant.counted, weight_turn (g.A.AsBytes.slices c.args.item.now) c.loop-k.k _ _ c.slices-count.ensures.formed c.in_ok-slice_len.ensures c.div_ceil-words.ensures);
+    }
 
 pub returns : goal.returns
-returns g c s =
-    let e = take_all c.loop-k.k (g.A.AsBytes.slices c.args.item.now) (omega (arith, c.slices-count.ensures.count s)) in
-    short (g.A.AsBytes.slices c.args.item.now) _
-    (omega (arith, c.loop-k.invariant.1 s, ap weight e, length-image (g.A.AsBytes.slices c.args.item.now))) c.loop-k.invariant.0
+returns g c =
+    let ss = g.A.AsBytes.slices c.args.item.now in
+    let e = take_all c.loop-k.k ss (omega (arith, c.slices-count.ensures.count)) in
+    short ss _ (omega (arith, c.loop-k.invariant.counted, ap weight e, length-image ss)) c.loop-k.invariant.short

@@ -4,4 +4,4 @@ use Rattle.column.specs.Kind.{CAP}
 use Rattle.indexed.proofs.length_in_words.Given as goal
 
 abbrev pub invariant-loop-k : goal.invariant-loop-k
-invariant-loop-k g l = (l.total ≤ CAP) × (g.A.Index.sound l.item → l.total ≡ 1 + length (g.A.AsBytes.slices l.item) + weight (take l.k (g.A.AsBytes.slices l.item)))
+invariant-loop-k g l = let ss = g.A.AsBytes.slices l.item in record { short : l.total ≤ CAP; counted : l.total ≡ 1 + length ss + weight (take l.k ss) }

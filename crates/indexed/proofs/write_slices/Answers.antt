@@ -1,48 +1,39 @@
-use Rattle.std.proofs.Common.{◌+◌, ◌/◌, [], refl, ◌∙◌, arith, length-drop, length-take}
-use Rattle.std.proofs.lemmas.List.Edits.{paste_none}
-use Rattle.indexed.proofs.ImageLemmas.{err_not_ok, length-image, slices_written, length-words_of, weight-take, length_ok, length_known, long_err, words_turn, weight_turn, slices_turn}
+use Rattle.std.proofs.Common.{length, ◌∙◌, rules, arith}
+use Rattle.indexed.proofs.ImageLemmas.{length-image, slices_written, length_ok, long_err, slice_room, words_turn, weight_turn, slices_turn}
 use Rattle.indexed.proofs.write_slices.Goals as goal
-use Rattle.indexed.proofs.write_slices.Goals.{then-place-part-via-then-place-part, then-place-part-via-else-place-part+then-words-part}
-
-pub loop-k-init : goal.loop-k-init
-loop-k-init g c s l m = (omega arith, paste_none c.args.part.now c.args.at [])
 
 pub returns-in_err-slice_len : goal.returns-in_err-slice_len
-returns-in_err-slice_len g c s l m =
-    absurd (omega (arith, (long_err (g.A.AsBytes.slices c.args.item.now) c.loop-k.k _ (c.slices-k-end.ensures.formed s) (omega (arith, c.slices-k-end.ensures.count s)) (c.in_err-slice_len.ensures s)).1))
-
-pub returns-then-place-part : goal.returns-then-place-part
-returns-then-place-part g c s l m =
-    absurd (
-    let t = weight_turn (g.A.AsBytes.slices c.args.item.now) c.loop-k.k _ _ (c.slices-k-end.ensures.formed s) (c.in_ok-slice_len.ensures s) c.saturating_add-words.ensures in
-    let a = weight-take (g.A.AsBytes.slices c.args.item.now) (c.loop-k.k + 1) in
-    let n = length-words_of (g.A.AsBytes.slices c.args.item.now) in
-    let i = (c.loop-k.invariant s l m).0 in
-    let z : ⊥ = elim c.then-place-part.branch [ then-place-part-via-then-place-part w ↦ omega arith | then-place-part-via-else-place-part+then-words-part w ↦ omega arith ] in
-    z)
-
-pub returns-in_err-write_slice : goal.returns-in_err-write_slice
-returns-in_err-write_slice g c s l m =
-    absurd (
+returns-in_err-slice_len g c =
     let ss = g.A.AsBytes.slices c.args.item.now in
-    let n = c.in_ok-slice_len.ensures s in
-    let w = words_turn ss c.loop-k.k _ _ (c.slices-k-end.ensures.formed s) n c.saturating_add-words.ensures in
-    err_not_ok (c.in_err-write_slice.ensures s (length_known ss c.loop-k.k _ n) (simp (length-take, length-drop) (omega arith))).0)
+    absurd (omega (arith, c.requires.short, (long_err ss c.loop-k.k _ c.slices-k-end.ensures.formed (omega (arith, c.slices-k-end.ensures.count)) c.in_err-slice_len.ensures).1))
+
+pub overflow_add-place : goal.overflow_add-place
+overflow_add-place g c =
+    let h = slice_room (g.A.AsBytes.slices c.args.item.now) c.loop-k.k _ _ c.args.at c.loop-k.place (length c.args.part.now) c.slices-k-end.ensures.formed c.in_ok-slice_len.ensures c.div_ceil-words.ensures c.loop-k.invariant.this c.requires.room in
+    search rules
+
+pub offset_bounds-part-place : goal.offset_bounds-part-place
+offset_bounds-part-place g c =
+    let h = slice_room (g.A.AsBytes.slices c.args.item.now) c.loop-k.k _ _ c.args.at c.loop-k.place (length c.args.part.now) c.slices-k-end.ensures.formed c.in_ok-slice_len.ensures c.div_ceil-words.ensures c.loop-k.invariant.this c.requires.room in
+    search rules
+
+pub slice_bounds-write_slice-end : goal.slice_bounds-write_slice-end
+slice_bounds-write_slice-end g c =
+    let h = slice_room (g.A.AsBytes.slices c.args.item.now) c.loop-k.k _ _ c.args.at c.loop-k.place (length c.args.part.now) c.slices-k-end.ensures.formed c.in_ok-slice_len.ensures c.div_ceil-words.ensures c.loop-k.invariant.this c.requires.room in
+    search rules
 
 pub loop-k-preserved : goal.loop-k-preserved
-loop-k-preserved g c s l m =
+loop-k-preserved g c =
     let ss = g.A.AsBytes.slices c.args.item.now in
-    let n = c.in_ok-slice_len.ensures s in
-    let i = c.loop-k.invariant s l m in
-    let w = words_turn ss c.loop-k.k _ _ (c.slices-k-end.ensures.formed s) n c.saturating_add-words.ensures in (
-      omega (arith, i.0, weight_turn ss c.loop-k.k _ _ (c.slices-k-end.ensures.formed s) n c.saturating_add-words.ensures),
-      slices_turn ss c.args.part.now c.args.at c.loop-k.k c.loop-k.place (c.saturating_add-words.result / 8) _ _ _ (length_ok ss c.loop-k.k _ n).1 (omega arith) w (omega arith) i.0 i.1
-          (c.in_ok-write_slice.ensures s (length_known ss c.loop-k.k _ n) (simp (length-take, length-drop) (omega arith))).1,
-    )
+    let n = c.in_ok-slice_len.ensures in
+    let i = c.loop-k.invariant in
+    let w = words_turn ss c.loop-k.k _ _ c.slices-k-end.ensures.formed n c.div_ceil-words.ensures in
+    record {
+      this = omega (arith, i.this, weight_turn ss c.loop-k.k _ _ c.slices-k-end.ensures.formed n c.div_ceil-words.ensures);
+      written = slices_turn ss c.args.part.now c.args.at c.loop-k.k c.loop-k.place c.div_ceil-words.result _ _ _ (length_ok ss c.loop-k.k _ n).1 (omega (arith, c.requires.room)) w (omega arith) i.this i.written c.write_slice.ensures.after;
+    }
 
-pub returns : goal.returns
-returns g c s l m = (
-  refl,
-  (c.loop-k.invariant s l m).1 ∙ slices_written (g.A.AsBytes.slices c.args.item.now) c.args.part.now c.args.at c.loop-k.k
-      (omega (arith, c.slices-k-end.ensures.count s, length-image (g.A.AsBytes.slices c.args.item.now))),
-)
+pub returns-clause-after : goal.returns-clause-after
+returns-clause-after g c =
+    c.loop-k.invariant.written ∙ slices_written (g.A.AsBytes.slices c.args.item.now) c.args.part.now c.args.at c.loop-k.k
+    (omega (arith, c.requires.short, c.slices-k-end.ensures.count, length-image (g.A.AsBytes.slices c.args.item.now)))

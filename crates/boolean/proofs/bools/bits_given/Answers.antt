@@ -5,8 +5,8 @@ use Rattle.std.proofs.lemmas.Nat.{le-div, pow_pos}
 use Rattle.std.proofs.lemmas.Bool.{cases_lt, le-leb, le-ltb, lt-ltb, ne_eqb}
 use Rattle.boolean.proofs.bools.bits_given.Goals as goal
 
-pub returns : goal.returns
-returns c =
+pub returns-then-count-lt64 : goal.returns-then-count-lt64
+returns-then-count-lt64 c =
     let b = c.args.bits in
     let m = c.args.count in
     rw (le-leb m 64 (omega arith))

@@ -4,6 +4,5 @@ use Rattle.column.proofs.append.append.Given as goal
 
 abbrev pub invariant-loop-i : goal.invariant-loop-i
 invariant-loop-i g l =
-    (g.C.Index.sound l.initial.dst → g.C.Index.sound l.dst × (g.C.Column.areas l.dst ≡ g.C.Column.areas l.initial.dst))
-    × (g.C.Index.sound l.initial.dst → g.R.Index.sound l.src →
-    Added (g.C.Column.takes (g.C.Column.areas l.initial.dst)) (g.C.Index.list l.initial.dst) (g.R.Index.list l.src) l.a l.b l.i (g.C.Index.list l.dst))
+    (g.C.Column.areas l.dst ≡ g.C.Column.areas l.initial.dst)
+    × Added (g.C.Column.takes (g.C.Column.areas l.initial.dst)) (g.C.Index.list l.initial.dst) (g.R.Index.list l.src) l.a l.b l.i (g.C.Index.list l.dst)

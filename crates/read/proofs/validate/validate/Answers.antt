@@ -1,37 +1,40 @@
-use Rattle.std.proofs.Common.{◌≡◌, Some, None, sym, ap, ◌∙◌, subst}
+use Rattle.std.proofs.Common.{ap}
 use Rattle.std.proofs.lemmas.Result.{err_from_is_err_and}
-use Rattle.decode.specs.Decode.{structure_fault}
-use Rattle.read.specs.Admission.{admission, admitted}
-use Rattle.read.specs.Form.{slices_within}
-use Rattle.read.proofs.AdmissionLemmas.{form_admitted, size-admitted, structure_refused, there_all}
+use Rattle.read.proofs.AdmissionLemmas.{all_asked, form_admitted, form_unread, size-admitted, there_all}
 use Rattle.read.proofs.FormLemmas.{size-passed}
 use Rattle.read.proofs.validate.validate.Goals as goal
 
-pub returns-in_err-image : goal.returns-in_err-image
-returns-in_err-image g c =
-    let p = err_from_is_err_and c.from_residual.result c.from_residual.ensures.1 in
-    rw (p.1, p.2) (structure_refused g.K.Kind.format (g.S.Store.words c.args.store.now) c.slice_count.result _ c.slice_count.ensures c.in_err-image.ensures)
-
 pub returns-in_err-sized : goal.returns-in_err-sized
 returns-in_err-sized g c =
-    let f = g.S.Store.words in
     let F = g.K.Kind.format in
-    let d = c.in_ok-image.image in
-    let n = c.slice_count.result in
-    let e = c.in_ok-image.ensures in
-    let h : structure_fault (Some n) (f d.store.now) ≡ None = ap (λ s. structure_fault (Some n) (f s)) e.1.0 ∙ e.0 in
+    let ws = g.S.Store.words c.args.store in
+    let h = c.in_ok-image.ensures in
+    let q = ap (λ s. s.now) h.1 in
+    let t = there_all F ws c.slice_count.result c.slice_count.ensures h.0 in
     let p = err_from_is_err_and c.from_residual-in_err-sized.result c.from_residual-in_err-sized.ensures.1 in
-    rw (p.1, p.2) (ap (λ s. admission F (f s)) (sym e.1.0) ∙ size-admitted f F d n c.slice_count.ensures h e.1.1 _ (c.in_err-sized.ensures (there_all f F d n c.slice_count.ensures h e.1.1)))
+    let e = rw q at c.in_err-sized.ensures in
+    rw (p.1, p.2) (size-admitted F ws c.slice_count.result c.slice_count.ensures h.0 _ (e t))
 
-pub returns : goal.returns
-returns g c =
-    let f = g.S.Store.words in
+pub returns-in_err-form : goal.returns-in_err-form
+returns-in_err-form g c =
     let F = g.K.Kind.format in
-    let d = c.in_ok-image.image in
-    let n = c.slice_count.result in
-    let e = c.in_ok-image.ensures in
-    let h : structure_fault (Some n) (f d.store.now) ≡ None = ap (λ s. structure_fault (Some n) (f s)) e.1.0 ∙ e.0 in
-    let t = there_all f F d n c.slice_count.ensures h e.1.1 in
-    let z = size-passed 0 (F.sized (slices_within f d 0 F.slots)) tt (c.in_ok-sized.ensures t) in
-    subst (λ s. admitted g.K.FromBytes.slices g.K.FromBytes.kept F (f s) c.form.result) e.1.0
-    (form_admitted f F d n c.slice_count.ensures h e.1.1 g.K.FromBytes.slices g.K.FromBytes.kept c.form.result z (c.form.ensures t z))
+    let ws = g.S.Store.words c.args.store in
+    let h = c.in_ok-image.ensures in
+    let q = ap (λ s. s.now) h.1 in
+    let t = there_all F ws c.slice_count.result c.slice_count.ensures h.0 in
+    let p = err_from_is_err_and c.from_residual-in_err-form.result c.from_residual-in_err-form.ensures.1 in
+    let z = size-passed 0 _ c.in_ok-sized.field-0 ((rw q at c.in_ok-sized.ensures) t) in
+    let e = rw q at c.in_err-form.ensures in
+    rw (p.1, p.2) (form_unread F ws c.slice_count.result c.slice_count.ensures h.0 g.K.ReadForm.slices g.K.ReadForm.kept z _ (e t z))
+
+pub invariant_of-result : goal.invariant_of-result
+invariant_of-result g c =
+    let F = g.K.Kind.format in
+    let ws = g.S.Store.words c.args.store in
+    let h = c.in_ok-image.ensures in
+    let q = ap (λ s. s.now) h.1 in
+    let t = there_all F ws c.slice_count.result c.slice_count.ensures h.0 in
+    let z = size-passed 0 _ c.in_ok-sized.field-0 ((rw q at c.in_ok-sized.ensures) t) in
+    let e = rw q at c.in_ok-form.ensures in
+    let f = form_admitted F ws c.slice_count.result c.slice_count.ensures h.0 g.K.ReadForm.slices g.K.ReadForm.kept z c.in_ok-form.form (g.met.S.Store.whole c.args.store) (e t z) in
+    record { stands = f.0; whole = f.1; asked = all_asked F ws c.slice_count.result c.slice_count.ensures h.0 }

@@ -1,13 +1,9 @@
-use Rattle.std.proofs.Common.{sym, ◌∙◌}
-use Rattle.boolean.proofs.BoolsLemmas.{word_at_ok, word_at_err}
+use Rattle.std.proofs.Common.{ap, ◌∙◌}
+use Rattle.std.specs.Result.{result_unwrap_or}
+use Rattle.boolean.proofs.BitsLemmas.{word_found}
 use Rattle.boolean.proofs.bools.Bools.word.Goals as goal
 
-pub returns-in-Ok : goal.returns-in-Ok
-returns-in-Ok g c = λ s.
-    let b = c.args.self.now in
-    word_at_ok (g.C.Index.list b.values) b.tail.word c.args.block c.in-Ok.w (sym (c.get.ensures s) ∙ c.in-Ok.is)
-
-pub returns-in-Err : goal.returns-in-Err
-returns-in-Err g c = λ s.
-    let b = c.args.self.now in
-    word_at_err (g.C.Index.list b.values) b.tail.word c.args.block c.in-Err.field-0 (sym (c.get.ensures s) ∙ c.in-Err.is)
+pub returns : goal.returns
+returns g c =
+    let bools = c.args.self.now in
+    c.unwrap_or.ensures ∙ ap (λ r. result_unwrap_or r bools.tail.word) c.get.ensures ∙ word_found (g.C.Index.list bools.values) bools.tail.word c.args.block

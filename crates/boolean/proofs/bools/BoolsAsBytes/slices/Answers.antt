@@ -1,18 +1,12 @@
 -- The slices below and the tail's.
-use Rattle.std.proofs.Common.{[], ◌∷◌, arith}
+use Rattle.std.proofs.Common.{[], ◌∷◌}
 use Rattle.std.proofs.ByRecursion.{All-append}
-use Rattle.std.proofs.lemmas.List.{length_push}
 use Rattle.area.specs.Slice.{WellFormed}
 use Rattle.boolean.specs.Bools.{tail_slice}
-use Rattle.boolean.proofs.BoolsLemmas.{tail-formed}
+use Rattle.boolean.proofs.BitsLemmas.{tail-formed}
 use Rattle.boolean.proofs.bools.BoolsAsBytes.slices.Goals as goal
 
-pub returns : goal.returns
-returns g c =
-    let b = c.args.self.now in
-    let ss = g.C.AsBytes.slices b.values in
-    let t = tail_slice b.tail.word b.tail.count in
-    record {
-      count = λ s. omega (arith, c.slices.ensures.count s.below, length_push ss t);
-      formed = λ s. All-append WellFormed ss (t ∷ []) (c.slices.ensures.formed s.below) (tail-formed b.tail s.tail, tt);
-    }
+pub returns-clause-formed : goal.returns-clause-formed
+returns-clause-formed g c =
+    let t = c.args.self.now.tail in
+    All-append WellFormed (g.C.AsBytes.slices c.args.self.now.values) (tail_slice t.word t.count ∷ []) c.slices.ensures.formed (tail-formed t.word t.count c.args.self.now.few c.args.self.now.clean, tt)

@@ -1,16 +1,16 @@
--- The element at a place is a bit of its word.
-use Rattle.std.proofs.Common.{◌%◌, Ok, Err, sym, ap, ◌∙◌, arith}
+use Rattle.std.proofs.Common.{Err, ap, ◌∙◌}
+use Rattle.std.proofs.lemmas.Result.{err_from_is_err_and}
 use Rattle.boolean.specs.Bools.{bools_list}
-use Rattle.boolean.proofs.BoolsLemmas.{bit_of, element-held, length-is}
-use Rattle.column.proofs.ColumnLemmas.{element_past}
+use Rattle.boolean.proofs.BitsLemmas.{bit_found, bit_refused}
 use Rattle.boolean.proofs.bools.BoolsIndex.get.Goals as goal
 
-pub returns-then-i-len : goal.returns-then-i-len
-returns-then-i-len g c = λ s. ap Err c.at_start.ensures ∙ sym (element_past (bools_list g.C.Index.list c.args.self.now) c.args.i (omega (arith, c.len.ensures s)))
+pub returns-in_err-bits_at : goal.returns-in_err-bits_at
+returns-in_err-bits_at g c =
+    let bools = c.args.self.now in
+    let p = err_from_is_err_and c.from_residual.result c.from_residual.ensures.1 in
+    p.1 ∙ ap Err p.2 ∙ bit_refused (bools_list (g.C.Index.list bools.values) bools.tail) c.args.i _ c.in_err-bits_at.ensures
 
 pub returns : goal.returns
-returns g c = λ s.
-    let b = c.args.self.now in
-    let ws = g.C.Index.list b.values in
-    ap (λ v. Ok (bit_of v (c.args.i % 64))) (c.word.ensures s.below)
-    ∙ element-held ws b.tail.count b.tail.word c.args.i s.tail.few (omega (arith, c.len.ensures s, length-is g.C.Index.list g.C.Index.sound b s))
+returns g c =
+    let bools = c.args.self.now in
+    bit_found (bools_list (g.C.Index.list bools.values) bools.tail) c.args.i _ c.in_ok-bits_at.ensures

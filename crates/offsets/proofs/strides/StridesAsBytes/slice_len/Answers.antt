@@ -1,6 +1,6 @@
 use Rattle.std.proofs.Common.{◌∙◌}
-use Rattle.offsets.proofs.StridesLemmas.{slice_length_lem}
+use Rattle.offsets.proofs.StridesLemmas.{bounds-length}
 use Rattle.offsets.proofs.strides.StridesAsBytes.slice_len.Goals as goal
 
 pub returns : goal.returns
-returns c h = c.slice_len.ensures h.run ∙ slice_length_lem c.args.self.now h c.args.k c.if-k-eq0.false
+returns c = c.slice_len.ensures ∙ bounds-length c.args.self.now c.args.k c.if-k-eq0.false

@@ -1,9 +1,8 @@
 use Rattle.std.proofs.Common.{arith}
-use Rattle.column.specs.Run.{run_list}
-use Rattle.offsets.proofs.StridesLemmas.{length_stands_lem}
+use Rattle.offsets.proofs.StridesLemmas.{length-list, length_run}
 use Rattle.offsets.proofs.strides.StridesIndex.len.Goals as goal
 
 pub returns : goal.returns
-returns c h =
+returns c =
     let column = c.args.self.now in
-    omega (arith, c.saturating_add.ensures, c.len.ensures h.run, h.held.1, length_stands_lem column.head.stride column.head.length (run_list column.bounds))
+    omega (arith, c.len.ensures, c.len-2.ensures, column.short, length_run column, length-list column)

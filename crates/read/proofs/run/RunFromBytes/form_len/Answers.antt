@@ -3,4 +3,4 @@ use Rattle.read.proofs.RunFormLemmas.{run_length}
 use Rattle.read.proofs.run.RunFromBytes.form_len.Goals as goal
 
 pub returns : goal.returns
-returns g c ws h = c.count_in.ensures ∙ run_length g.T.Value.fits g.T.Element.codec g.met.T.Element.one_to_one c.args.form.now ws h
+returns g c ws h = c.count_in.ensures ∙ run_length g.met.T.Element.one_to_one h

@@ -1,11 +1,10 @@
-use Rattle.std.proofs.Common.{Err, sym, ap, ◌∙◌}
-use Rattle.tuple.proofs.EmptiesLemmas.{empty_at, empty_past}
+use Rattle.std.proofs.Common.{Err, sym, ap, ◌∙◌, arith}
+use Rattle.column.proofs.ColumnLemmas.{element_at_lem, element_past}
+use Rattle.tuple.specs.Empties.{empties_list}
 use Rattle.tuple.proofs.empties.EmptiesIndex.get.Goals as goal
 
--- src/empties.rt:43:13
-pub returns-then-i-self : goal.returns-then-i-self
-returns-then-i-self c = λ s. ap Err c.at_start.ensures ∙ sym (empty_past c.args.self.now.count c.args.i c.if-i-self.true)
+pub returns-then-i-len : goal.returns-then-i-len
+returns-then-i-len c = ap Err c.at_start.ensures ∙ sym (element_past (empties_list c.args.self.now.count) c.args.i (omega (arith, c.len.ensures, c.if-i-len.true)))
 
--- src/empties.rt:41:5
 pub returns : goal.returns
-returns c = λ s. sym (empty_at c.args.self.now.count c.args.i c.if-i-self.false)
+returns c = sym (element_at_lem (empties_list c.args.self.now.count) c.args.i tt (omega (arith, c.len.ensures, c.if-i-len.false)))

@@ -1,9 +1,9 @@
-use Rattle.std.proofs.Common.{length, sym, ap, ◌∙◌}
-use Rattle.tuple.proofs.FormLemmas.{apart}
-use Rattle.tuple.proofs.PairLemmas.{length-tuples}
+use Rattle.std.proofs.Common.{arith}
+use Rattle.std.proofs.lemmas.Slice.Zip.{length-zip}
+use Rattle.tuple.proofs.FormLemmas.{apart, list_sides}
 use Rattle.tuple.proofs.form.PairFromBytes.form_len.Goals as goal
 
 pub returns : goal.returns
 returns g c ws s =
-    let b = apart _ _ _ _ g.A.Kind.format g.B.Kind.format c.args.form.now ws s in
-    c.form_len.ensures ws b.left ∙ sym (length-tuples _ _ b.level) ∙ ap length b.list
+    let b = apart g.A.ReadForm g.B.ReadForm g.A.Kind.format g.B.Kind.format c.args.form.now ws s in
+    rw (← list_sides g.A.Kind.format g.B.Kind.format _ _ s.keeps.count b.level, length-zip) (omega (arith, c.form_len.ensures ws b.left, b.level))

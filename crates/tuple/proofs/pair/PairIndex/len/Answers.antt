@@ -1,7 +1,6 @@
-use Rattle.std.proofs.Common.{sym, ◌∙◌}
-use Rattle.tuple.proofs.PairLemmas.{length-tuples}
+use Rattle.std.proofs.Common.{arith}
+use Rattle.std.proofs.lemmas.Slice.Zip.{length-zip}
 use Rattle.tuple.proofs.pair.PairIndex.len.Goals as goal
 
--- src/pair.rt:41:5
 pub returns : goal.returns
-returns g c = λ s. c.len.ensures s.left ∙ sym (length-tuples (g.A.Index.list c.args.self.now.first) (g.B.Index.list c.args.self.now.second) s.level)
+returns g c = rw length-zip (omega (arith, c.len.ensures, c.args.self.now.level))

@@ -1,0 +1,5 @@
+use Rattle.offsets.proofs.FormLemmas.{bounds_stand}
+use Rattle.offsets.proofs.form.bounds_of.Goals as goal
+
+pub invariant_of-result : goal.invariant_of-result
+invariant_of-result g c = record { stands = bounds_stand c.args.view.now.form.now (g.S.Store.words c.args.view.now.store.now) c.args.view.now.stands }

@@ -1,9 +1,0 @@
-use Rattle.std.proofs.Common.{◌<◌, refl, rules}
-use Rattle.std.proofs.ByRecursion.{All-from_get_or}
-use Rattle.storage.proofs.store.byte_count.Goals as goal
-
-pub returns-then-is_empty : goal.returns-then-is_empty
-returns-then-is_empty c = record { count = search rules; whole = All-from_get_or (λ b. b < 256) c.args.bytes.now 0 (λ i _. (c.type_inv.bytes i).fits) }
-
-pub returns : goal.returns
-returns c = record { count = refl; whole = All-from_get_or (λ b. b < 256) c.args.bytes.now 0 (λ i _. (c.type_inv.bytes i).fits) }
