@@ -44,7 +44,7 @@ impl Refusal {
 }
 
 impl Fault {
-    // A refusal whose place is 0.
+    // A refusal whose place is 0; a name says more here than a conversion.
     pub fn at_start(refusal: Refusal) -> Fault
         ensures { result ≡ refuse refusal 0 }
     {

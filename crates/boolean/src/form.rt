@@ -90,6 +90,7 @@ impl<C: FromBytes<Elem = u64> + Index<Item = u64>> FromBytes for Bools<C> {
     fn sized<S: Store>(image: &DecodedStore<S>, at: usize) -> Result<(), Fault> {
         C::sized(image, at)?;
         let last = at.saturating_add(C::slice_count());
+        // a test a kind: the number of words is all that another kind's would share
         if image.get(last)?.words() < 2 {
             return Err(Fault::at(Refusal::SliceSize, last));
         }

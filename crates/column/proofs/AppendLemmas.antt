@@ -1,5 +1,5 @@
 -- How far an append has come: the elements that it has put after a list, and whether the next one is taken.
-use Rattle.std.proofs.Common.{◌≡◌, ℕ, zero, suc, ◌+◌, ◌-◌, ◌<◌, ◌≤◌, min, Bool, true, false, cond, not, List, [], ◌∷◌, ◌++◌, length, take, drop, is_err as is_refusal, Ok, Err, Result, sym, refl, ap, ◌∙◌, append_assoc, append-nil, add-sub_of_le, zero-add, arith}
+use Rattle.std.proofs.Common.{◌≡◌, ℕ, zero, suc, ◌+◌, ◌-◌, ◌<◌, ◌≤◌, min, Bool, true, false, cond, not, List, [], ◌∷◌, ◌++◌, length, take, drop, is_err as is_refusal, is_ok, Ok, Err, Result, sym, refl, ap, ◌∙◌, append_assoc, append-nil, add-sub_of_le, zero-add, arith}
 use native.Mathlib.Nat.{sub_self}
 use Rattle.std.specs.List.{between}
 use Rattle.std.proofs.lemmas.List.Edits.{length-between}
@@ -33,6 +33,11 @@ first_taken false n m h = absurd (omega arith)
 is_err : (b : Bool) → is_refusal (push_answer b) ≡ not b
 is_err true = refl
 is_err false = refl
+
+-- what is an answer is no refusal
+pub not_refused : {X A : Type 0} (r : Result X A) → is_ok r ≡ true → is_refusal r ≡ false
+not_refused (Ok x) h = refl
+not_refused (Err e) h = cc
 
 module _ {E : Type 0} (t : List E → E → Bool) where
   taken_le : (xs ys : List E) → taken t xs ys ≤ length ys

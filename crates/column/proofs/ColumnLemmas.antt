@@ -1,5 +1,5 @@
 -- What a column answers at a place, and what a push leaves.
-use Rattle.std.proofs.Common.{◌≡◌, ℕ, zero, suc, ◌<◌, ◌≤◌, Bool, true, List, [], ◌∷◌, ◌++◌, length, get_or, Ok, Err, refl, arith}
+use Rattle.std.proofs.Common.{◌≡◌, ℕ, zero, suc, ◌<◌, ◌≤◌, Bool, true, List, [], ◌∷◌, ◌++◌, length, get_or, Ok, Err, refl, arith, Result, MatchResult, IsErrAnd}
 use Rattle.std.specs.List.{list_all}
 use Rattle.std.proofs.lemmas.Bool.{and_from, and_parts}
 use Rattle.area.specs.Fault.{refuse}
@@ -15,6 +15,11 @@ pub element_past : {E : Type 0} (xs : List E) (i : ℕ) → length xs ≤ i → 
 element_past [] i h = refl
 element_past (x ∷ xs) zero h = absurd (omega arith)
 element_past (x ∷ xs) (suc i) h = element_past xs i (omega arith)
+
+-- what `map_err` was given where it answers a fault
+pub mapped : {X A D : Type 0} (r : Result X A) (f : D) (made : A → D → Type 0) → MatchResult r (λ x. ◌≡◌ {A = Result X D} (Err f) (Ok x)) (λ e. IsErrAnd {T = X} (Err f) (made e)) → (e : A) × (Err e ≡ r) × made e f
+mapped (Ok x) f made h = let z : ◌≡◌ {A = ℕ} 0 1 = cc in absurd (omega arith)
+mapped (Err e) f made h = (e, refl, h)
 
 -- an element that was found
 pub element_found : {E : Type 0} (xs : List E) (i : ℕ) (x d : E) → Ok x ≡ element xs i → (i < length xs) × (get_or xs i d ≡ x)

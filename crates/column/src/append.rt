@@ -22,10 +22,8 @@ pub fn append<C: Column, R: Index<Item = C::Elem>>(
         return Err(Fault::at_start(Refusal::OutOfRange));
     }
     for i in a..b {
-        let x = src.get(i)?;
-        if dst.push(x).is_err() {
-            return Err(Fault::at(Refusal::NotTaken, i - a));
-        }
+        let refused = Fault::at(Refusal::NotTaken, i - a);
+        dst.push(src.get(i)?).map_err(|_| refused)?;
     }
     Ok(())
 }

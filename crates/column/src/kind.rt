@@ -28,6 +28,21 @@ pub trait Index {
         ensures { result ≡ element (list self.now) i };
 }
 
+// A reference to a list is the same list.
+impl<'s, I: Index> Index for &'s I {
+    type Item = I::Item;
+
+    ghost list = { λ i. I.Index.list i.now };
+
+    fn len(&self) -> usize {
+        (**self).len()
+    }
+
+    fn get(&self, i: usize) -> Result<I::Item, Fault> {
+        (**self).get(i)
+    }
+}
+
 // What gives slices, of which images are made.
 pub trait AsBytes: Index {
     ghost slices: { Self → List Slice };

@@ -60,9 +60,9 @@ impl<'a, T: Element> Run<'a, T> {
         ensures { result ≡ slice_index (flat_map T.Element.codec.bytes (take self.now.len self.now.cells.now)) p }
     {
         let size = T::size();
+        // by a match: of a closure over a type parameter's call the check finds no proof
         match self.get(p / size) {
             Ok(x) => x.byte(p % size),
-            // past the elements
             Err(_) => 0,
         }
     }

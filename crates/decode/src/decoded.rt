@@ -18,6 +18,7 @@ pub struct DecodedStore<S: Store> {
     ghost counted: { count ≡ length (slices_of (S.Store.words store)) },
 }
 
+// By hand, since a `Clone` is not derived over a ghost field.
 impl<S: Store + Copy> Copy for DecodedStore<S> {}
 
 impl<S: Store + Copy> Clone for DecodedStore<S> {

@@ -7,7 +7,7 @@ ghost use Rattle.decode.specs.Decode.{Inside, slice_in};
 use area::fault::{Fault, Refusal};
 use storage::store::Store;
 
-// The slice's first word, and its length in bytes.
+// The slice's first word, and its length in bytes. A place stands apart from its store, which a form is lent anew at each call.
 #[derive(Clone, Copy)]
 pub struct Span {
     pub from: usize,

@@ -164,11 +164,6 @@ pieces-spill ss w z =
 all_given : {F : Type 0} (n m : ℕ) (f : F) → ◌≡◌ {A = Result (Unit {0}) F} (Ok tt) (cond (eqb n m) (Ok tt) (Err f)) → n ≡ m
 all_given n m f h = grind (arith, nat_tests)
 
--- what `map_err` was given where it answers a fault
-pub mapped : {X E D : Type 0} (r : Result X E) (f : D) (made : E → D → Type 0) → MatchResult r (λ x. ◌≡◌ {A = Result X D} (Err f) (Ok x)) (λ e. IsErrAnd {T = X} (Err f) (made e)) → (e : E) × (Err e ≡ r) × made e f
-mapped (Ok x) f made h = absurd (err_not_ok h)
-mapped (Err e) f made h = (e, refl, h)
-
 module _ {W F : Type 0} {sink : SinkMembers W F} where
   pub took_none : (c : Counted W) → Took sink [] c c
   took_none c = record { same = refl; count = omega arith; fits = omega arith; bytes = sym (append-nil (sink.taken c.sink.now)); left = omega arith; rest = refl }

@@ -51,7 +51,7 @@ fn next_end<A: AsBytes>(item: &A, k: usize, end: usize) -> Result<usize, Fault>
     Ok(end.next_multiple_of(8) + item.slice_len(k)?)
 }
 
-// Writes the index over the front of `part`.
+// Writes the index over the front of `part`: word `k` + 1 is the end of slice `k`, so the number serves both.
 fn write_index<A: AsBytes>(item: &A, part: &mut [u64]) -> Result<(), Fault>
     requires short { length (image (A.AsBytes.slices item.now)) ≤ CAP }
     requires room { length (image (A.AsBytes.slices item.now)) ≤ length part.old }

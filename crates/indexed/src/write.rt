@@ -45,7 +45,7 @@ impl<F> fmt::Display for WriteFault<F> {
     }
 }
 
-// A sink, and how many pieces it was given.
+// A sink that is lent, and how many pieces it was given.
 #[derive(Drop)]
 struct Counted<'w, W> {
     sink: &'w mut W,
@@ -66,7 +66,8 @@ impl<'w, W: WriteBytes> Counted<'w, W> {
     }
 }
 
-// Gives the words of the index.
+// Gives the words of the index. A sink answers at each piece and an area does not, so the loop stands for each, and the
+// step of both in `next_end`.
 fn write_index<A: AsBytes, W: WriteBytes>(
     item: &A,
     out: &mut Counted<'_, W>,
@@ -157,6 +158,7 @@ pub fn write_store<S: Store, W: WriteBytes>(
 {
     let mut out = Counted { sink, piece: 0 };
     for i in 0..store.count() {
+        // never absent: the count says that it is there
         let Some(word) = store.word(i) else {
             return Ok(());
         };

@@ -54,6 +54,7 @@ impl<'a> FromBytes for Strides<'a> {
     fn sized<S: Store>(image: &DecodedStore<S>, at: usize) -> Result<(), Fault>
         ensures { There (S.Store.words image.now.store) at 2 → result ≡ size_answer at ((strides_format word_run).sized (slices_within (S.Store.words image.now.store) at 2)) }
     {
+        // a test a kind: the number of words is all that another kind's would share
         if image.get(at)?.words() < 2 {
             return Err(Fault::at(Refusal::SliceSize, at));
         }
@@ -69,6 +70,7 @@ impl<'a> FromBytes for Strides<'a> {
         let length = place.word(image.store(), 1)?;
         let head = Head { stride, length };
         let count = head.len(Run::<u64>::form_len(&bounds));
+        // one refusal at one place, whichever is out of bounds
         if stride.checked_mul(length).is_none() || count > MAX_LEN {
             return Err(Fault::at(Refusal::SliceContent, at));
         }

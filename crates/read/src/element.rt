@@ -23,6 +23,7 @@ fn word_from<S: Store>(store: &S, from: usize, i: usize) -> Option<u64>
     store.word(from.saturating_add(i))
 }
 
+// An impl a type, as of `Element`.
 impl Stored for u64 {
     fn read<S: Store>(store: &S, from: usize, i: usize) -> Option<u64> {
         word_from(store, from, i)

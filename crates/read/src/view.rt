@@ -17,7 +17,7 @@ pub struct View<'f, 's, K: ReadForm, S: Store> {
     pub ghost stands: { Stands K.ReadForm.slices K.ReadForm.kept K.Kind.format form.now (S.Store.words store.now) } by { Stands-prop K.ReadForm.slices K.ReadForm.kept K.ReadForm.kept_prop K.Kind.format form.now (S.Store.words store.now) },
 }
 
-// Two references, which are copied as they are.
+// Two references, which are copied as they are; by hand, since a `Clone` is not derived over a ghost field.
 impl<'f, 's, K: ReadForm, S: Store> Copy for View<'f, 's, K, S> {}
 
 impl<'f, 's, K: ReadForm, S: Store> Clone for View<'f, 's, K, S> {

@@ -1,8 +1,7 @@
 -- A converted table: what `make_typed` accepted is Typed and holds the same list, and what is owed of its image.
-use Rattle.std.proofs.Common.{◌≡◌, ℕ, ◌≤◌, Bool, cond, List, [], length, Ok, Err, refl, subst, ⊎_elim, arith}
+use Rattle.std.proofs.Common.{◌≡◌, ℕ, ◌≤◌, Bool, cond, List, [], length, Ok, refl, subst, ⊎_elim, arith}
 use Rattle.std.proofs.lemmas.Bool.{cases_lt}
 use Rattle.std.proofs.lemmas.Bool.Decides.{nat_tests}
-use Rattle.area.specs.declared.fault.Fault.{Fault}
 use Rattle.column.specs.Column.{Areas, append_answer}
 use Rattle.column.specs.Kind.{CAP, Format, Laws}
 use Rattle.indexed.specs.Pieces.{Written}
@@ -14,12 +13,9 @@ use Rattle.stash.specs.Written.{TableWritten}
 use Rattle.stash.proofs.ClaimLemmas.{claim}
 use Rattle.stash.proofs.HistoryLemmas.{history-holds}
 
--- a column takes a whole list where an append of it to nothing is accepted, and there alone
+-- a column takes a whole list where an append of it to nothing is accepted
 all_taken : {E X : Type 0} (t : Areas → List E → E → Bool) (b : Areas) (xs : List E) (x y : X) → append_answer (t b) [] xs ≡ Ok tt → cond (takes_all t b xs) x y ≡ x
 all_taken t b xs x y e = grind (arith, nat_tests)
-
-pub not_all_taken : {E X : Type 0} (t : Areas → List E → E → Bool) (b : Areas) (xs : List E) (x y : X) (f : Fault) → append_answer (t b) [] xs ≡ Err f → cond (takes_all t b xs) x y ≡ y
-not_all_taken t b xs x y f e = grind (arith, nat_tests)
 
 module _ {E : Type 0} (F : Format E) (t : Areas → List E → E → Bool) where
   -- what `make_typed` accepts

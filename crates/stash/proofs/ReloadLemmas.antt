@@ -1,9 +1,8 @@
 -- A reload: the area after a table was written to it, from what the sink has taken.
-use Rattle.std.proofs.Common.{◌≡◌, ℕ, ◌-◌, Bool, true, false, cond, eqb, leb, List, ◌∷◌, ◌++◌, length, take, drop, Ok, Err, Result, sym, refl, ap, ◌∙◌, arith, take-append-drop, length-take}
-use Rattle.std.proofs.lemmas.Bool.{cond_both, leb-false, leb-true, true≢false}
+use Rattle.std.proofs.Common.{◌≡◌, ℕ, ◌-◌, Bool, true, false, cond, eqb, List, ◌∷◌, length, take, drop, Ok, Err, Result, sym, refl, ap, ◌∙◌, arith, take-append-drop, length-take}
+use Rattle.std.proofs.lemmas.Bool.{leb-false, leb-true, true≢false}
 use Rattle.area.specs.Fault.{refuse}
 use Rattle.area.specs.declared.fault.Refusal.TheVariants.{ImageTooLong}
-use Rattle.storage.specs.Sink.{taking}
 use Rattle.storage.specs.declared.write.Full.{Full}
 use Rattle.column.specs.Kind.{Format}
 use Rattle.storage.specs.declared.write.WriteBytes.{Ghosts as SinkMembers}
@@ -14,10 +13,6 @@ use Rattle.stash.specs.History.{Table, align, bytes, typed}
 use Rattle.stash.specs.contracts.landing.LandingWriteBytes.TheImpl.{ghosts}
 use Rattle.stash.specs.declared.landing.Landing.{Landing}
 use Rattle.stash.specs.Written.{Reloads, TableWritten, has_image, table_pieces}
-
--- a mark that stands before what is taken stays there
-pub marked : {m n : ℕ} {us : List ℕ} (vs : List ℕ) → m ≡ n → (room : ℕ) (bs : List ℕ) → us ≡ taking room vs bs → m ∷ us ≡ taking room (n ∷ vs) bs
-marked {m} {n} {us} vs e room bs h = rw (e, h) (cond_both (leb (length bs) room) (vs ++ bs) vs (λ ws. n ∷ ws ≡ taking room (n ∷ vs) bs) (λ t. rw t) (λ f. rw f))
 
 -- what a table gives a sink, by whether it has an image
 module _ {W X E : Type 0} (sink : SinkMembers W X) (F : Format E) where
@@ -63,8 +58,7 @@ module _ {E : Type 0} (F : Format E) (T : Table E) where
               area (cc) (cc) ∙ sym (take-append-drop u.sink.now.at u.sink.now.area.now) ∙ rw (f, rest),
             );
         long = λ h.
-            let v = table_long ghosts F T s u r w h in (
-              rw v.0,
-              area (ap (λ l. l.sink.ghost_name) (sym v.1)) (ap (λ l. l.sink.now.area.ghost_name) (sym v.1)) ∙ ap (λ l. l.sink.now.area.now) v.1,
-            );
+            let v = table_long ghosts F T s u r w h in
+            let e = v.1 in
+            (rw v.0, area (cc) (cc) ∙ cc);
       }

@@ -26,7 +26,7 @@ pub enum State<C: Drop, B: Drop, A: Drop> {
 // A table over columns `C`: a stored image that it holds was admitted.
 pub type Stash<C, B, A> = State<C, Admitted<C, B>, Admitted<C, A>>;
 
-// The calls that may change a table.
+// The calls that may change a table. A source is held as it is: a column, a read form, or a reference to one.
 #[derive(Drop)]
 pub enum Event<
     C: Column + Drop,
@@ -86,7 +86,6 @@ impl<C: Column + FromBytes + Drop, B: Store + Drop, A: Store + Drop> Stash<C, B,
     }
 
     // Answers a call by the table's present state and the call together.
-    #[tactic(auto, using(crate::proofs::ConvertLemmas::not_all_taken))]
     pub fn apply<R: Index<Item = C::Elem> + Drop>(
         &mut self,
         event: Event<C, R, B, A>,
@@ -153,10 +152,7 @@ impl<C: Column + FromBytes + Drop, B: Store + Drop, A: Store + Drop> Stash<C, B,
         ensures after { table_of C.Column self.new ≡ after C.Kind.format C.Column.takes (table_of C.Column self.old) (append_call (R.Index.list source.now) a b) }
         ensures held { Held C.Elem.Value.fits (holds C.Kind.format (table_of C.Column self.new)) }
     {
-        match self {
-            Stash::Typed(c) => append(c, source, a, b),
-            _ => not_typed(),
-        }
+        self.apply(Event::Append(source, a, b))
     }
 
     // Empties the list.

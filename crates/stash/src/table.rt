@@ -12,7 +12,7 @@ use area::fault::Fault;
 use column::element::Value;
 use column::kind::{AsBytes, Column, Index, Kind};
 use indexed::write::{WriteFault, write, write_store};
-use indexed::{encode, length_in_bytes, length_in_words};
+use indexed::{encode, length_in_words};
 use read::form::FromBytes;
 use storage::store::Store;
 use storage::write::{ByteSink, Full, WriteBytes};
@@ -45,11 +45,7 @@ impl<C: Column + FromBytes + Drop, B: Store + Drop, A: Store + Drop> Stash<C, B,
     pub fn length_in_bytes(&self) -> Result<usize, Fault>
         ensures { result ≡ byte_length_answer (slices_of_table C.Kind.format (table_of C.Column self.now)) }
     {
-        match self {
-            Stash::Typed(column) => length_in_bytes(column),
-            Stash::Bytes(image) => length_in_bytes(&image.view()),
-            Stash::Align(image) => length_in_bytes(&image.view()),
-        }
+        Ok(8 * self.length_in_words()?)
     }
 
     // The first step of `make_aligned`: encodes the present column or read form into the start of `area` and answers the

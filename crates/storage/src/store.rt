@@ -116,6 +116,7 @@ pub struct Window<S: Store> {
     ghost in_range: { from + size < 2 ^ 64 },
 }
 
+// By hand, since a `Clone` is not derived over a ghost field.
 impl<S: Store + Copy> Copy for Window<S> {}
 
 impl<S: Store + Copy> Clone for Window<S> {

@@ -82,7 +82,7 @@ impl<'a> WriteBytes for ByteSink<'a> {
     }
 }
 
-// A word area: its bytes are those of its words, the lowest first. The first `at` words are taken, and `part` bytes of the next.
+// A word area that is lent: its bytes are those of its words, the lowest first. The first `at` words are taken, and `part` bytes of the next.
 #[derive(Drop)]
 pub struct WordSink<'a> {
     area: &'a mut [u64],

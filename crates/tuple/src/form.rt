@@ -37,6 +37,7 @@ impl ReadForm for Empties {
 
 impl FromBytes for Empties {
     fn sized<S: Store>(image: &DecodedStore<S>, at: usize) -> Result<(), Fault> {
+        // a test a kind: the number of words is all that another kind's would share
         if image.get(at)?.words() < 1 {
             return Err(Fault::at(Refusal::SliceSize, at));
         }

@@ -1,6 +1,7 @@
 use Rattle.std.proofs.Common.{◌≡◌, refl, ap, ◌∙◌, rules}
 use Rattle.indexed.specs.declared.write.WriteFault.TheVariants.{Full}
-use Rattle.indexed.proofs.PieceLemmas.{mapped, stopped_one, stops}
+use Rattle.column.proofs.ColumnLemmas.{mapped}
+use Rattle.indexed.proofs.PieceLemmas.{stopped_one, stops}
 use Rattle.indexed.proofs.write.Counted.give.Goals as goal
 
 pub returns-in_err-map_err : goal.returns-in_err-map_err
