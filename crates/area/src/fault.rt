@@ -35,7 +35,7 @@ pub struct Fault {
 }
 
 impl Refusal {
-    // The number by which the format's description names this refusal.
+    // The number by which the format's description names this refusal; `number` says which, and a `From` would not.
     pub fn number(self) -> u32
         ensures { result ≡ number_of self }
     {

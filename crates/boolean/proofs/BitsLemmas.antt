@@ -12,11 +12,9 @@ use Rattle.std.proofs.lemmas.Nat.{shl-shr, shr-shr, shr_high, mod_low, mod-pow-a
 use Rattle.std.proofs.lemmas.List.{take-append-drop, take_all, drop_all, take_at, length-take-le, length-drop, length_push}
 use Rattle.std.proofs.lemmas.Bool.{cases_lt, cond_both, and_parts, leb-true, ltb-true, lt-ltb, le-leb, lt-leb, eq-eqb, ne_eqb}
 use Rattle.area.specs.Fault.{refuse}
-use Rattle.area.specs.Slice.{WellFormed}
 use Rattle.area.specs.declared.fault.Fault.{Fault}
 use Rattle.area.specs.declared.fault.Refusal.TheVariants.{NotTaken, OutOfRange}
-use Rattle.area.proofs.SliceLemmas.{of_words-formed}
-use Rattle.boolean.specs.Bools.{bit, from_bits, to_bits, groups, rest, held_bits, tail_slice, bools_takes, given_bits, bits_taken, bits_pushed, push_bits_answer, range_bits, word_at}
+use Rattle.boolean.specs.Bools.{bit, from_bits, to_bits, groups, rest, held_bits, bools_takes, given_bits, bits_taken, bits_pushed, push_bits_answer, range_bits}
 use Rattle.boolean.specs.BoolsLaws.{Stands, length-to_bits, to_bits-from_bits, from_bits-to_bits, from_bits_low, from_bits_lt, length-held, held_stands, length_rest, rest_more, rest-full, bits_more}
 use Rattle.boolean.specs.declared.bools.Bools.{Bools}
 use Rattle.column.specs.Column.{Areas, element, taken, pushed, push_answer}
@@ -360,7 +358,7 @@ module _ (ws : List ℕ) (n w : ℕ) (few : n ≤ 63) (clean : w < 2 ^ n) (i m :
       ∙ ap (λ x. x % 2 ^ m) (from_bits-drop i (held_bits ws n w) ∙ ap (λ x. whole / 2 ^ x) e ∙ sym (shr-shr whole (64 * (i / 64)) (i % 64)))
       ∙ sym (mod-mod-pow (from / 2 ^ (i % 64)) (j - m) m) ∙ ap (λ x. from / 2 ^ (i % 64) % 2 ^ x % 2 ^ m) f
 
-  module _ (v : ℕ) (v-is : v ≡ word_at ws w (i / 64)) (v-fits : v < 2 ^ 64) where
+  module _ (v : ℕ) (v-is : v ≡ get_or ws (i / 64) w) (v-fits : v < 2 ^ 64) where
     first : from % 2 ^ 64 ≡ v
     first = word_of 64 n w clean ws (i / 64) (omega (arith, length-held ws n w)) ∙ ap (λ x. x % 2 ^ 64) (sym v-is) ∙ mod-eq_of_lt v-fits
 
@@ -369,7 +367,7 @@ module _ (ws : List ℕ) (n w : ℕ) (few : n ≤ 63) (clean : w < 2 ^ n) (i m :
         let s = i % 64 in
         read (64 - s) (omega arith) ∙ ap (λ y. y % 2 ^ m) (one_word from v first s (64 - s) (omega arith) ∙ sym x-is)
 
-    pub read_two : 64 < i % 64 + m → m ≤ 64 → (u : ℕ) → u ≡ word_at ws w (i / 64 + 1) → u < 2 ^ 64 → (x : ℕ) → x ≡ filled (v / 2 ^ (i % 64)) (64 - i % 64) u → Reads (held_bits ws n w) i m x
+    pub read_two : 64 < i % 64 + m → m ≤ 64 → (u : ℕ) → u ≡ get_or ws (i / 64 + 1) w → u < 2 ^ 64 → (x : ℕ) → x ≡ filled (v / 2 ^ (i % 64)) (64 - i % 64) u → Reads (held_bits ws n w) i m x
     read_two l q u u-is u-fits x x-is =
         let s = i % 64 in
         let e : 64 * (i / 64) + 64 ≡ 64 * (i / 64 + 1) = omega arith in
@@ -385,7 +383,7 @@ masked xs i m x r inside l mask e =
     (ap Ok (ap (bit_and x) e ∙ and_mask x m ∙ sym r))
 
 -- the word that the column below answers at a place, or else the tail
-pub word_found : (ws : List ℕ) (w k : ℕ) → result_unwrap_or (element ws k) w ≡ word_at ws w k
+pub word_found : (ws : List ℕ) (w k : ℕ) → result_unwrap_or (element ws k) w ≡ get_or ws k w
 word_found [] w k = refl
 word_found (v ∷ ws) w zero = refl
 word_found (v ∷ ws) w (suc k) = word_found ws w k
@@ -415,10 +413,3 @@ module _ (xs : List Bool) (i : ℕ) where
       (λ (l : i < length xs). let z : ◌≡◌ {A = ℕ} 0 1 = cc (e, bit_there l) in absurd (omega arith))
       (λ (l : length xs ≤ i). let q : f ≡ refuse OutOfRange 0 = cc (e, bit_past l) in ap Err q ∙ sym (element_past xs i l))
       (cases_lt i (length xs))
-
--- the slice of a tail
-pub tail-formed : (w n : ℕ) → n ≤ 63 → w < 2 ^ n → WellFormed (tail_slice w n)
-tail-formed w n few clean =
-    let p : 0 < 2 = omega arith in
-    let m : n ≤ 64 = omega arith in
-    of_words-formed (w ∷ n ∷ []) (omega (arith, pow-le-pow_right p m), (omega arith, tt))

@@ -1,5 +1,5 @@
 -- A form of bools taken apart: the form of the words below, and the tail.
-use Rattle.std.proofs.Common.{◌≡◌, ℕ, zero, suc, ◌+◌, ◌*◌, ◌/◌, ◌%◌, ◌^◌, ◌-◌, ◌<◌, ◌≤◌, min, Bool, true, false, cond, ◌&&◌, eqb, leb, List, [], ◌∷◌, ◌++◌, map, length, take, Some, None, Ok, Err, Option, Result, ok_or, sym, refl, ap, ◌∙◌, ap₂, add-one, arith}
+use Rattle.std.proofs.Common.{◌≡◌, ℕ, zero, suc, ◌+◌, ◌*◌, ◌/◌, ◌%◌, ◌^◌, ◌-◌, ◌<◌, ◌≤◌, min, Bool, true, false, cond, ◌&&◌, eqb, leb, List, [], ◌∷◌, ◌++◌, map, length, take, Some, None, Ok, Err, Result, ok_or, sym, refl, ap, ◌∙◌, ap₂, add-one, arith}
 use Rattle.std.specs.List.{AllByRecursion, flat_map}
 use Rattle.std.proofs.lemmas.Nat.{mod-pow-add, mod_below, pow_pos}
 use Rattle.std.proofs.lemmas.List.{length_push, take_at, get_or_at}
@@ -8,15 +8,16 @@ use Rattle.area.specs.Digits.{digits}
 use Rattle.area.specs.Fault.{refuse}
 use Rattle.area.specs.Slice.{Slice, of_words, words_for}
 use Rattle.area.specs.declared.fault.Fault.{Fault}
-use Rattle.area.specs.declared.fault.Refusal.TheVariants.{SliceContent, SliceSize}
+use Rattle.area.specs.declared.fault.Refusal.TheVariants.{SliceContent}
 use Rattle.column.specs.Kind.{CAP, Format, L, first_refused, reading_within, least_words, slot, word_of}
 use Rattle.column.specs.KindLemmas.{least_words_lem}
-use Rattle.decode.specs.Decode.{Inside, slice_in, span_answer, structure_fault}
+use Rattle.decode.specs.Decode.{Inside, least_words_answer, slice_in, span_answer, structure_fault}
 use Rattle.decode.specs.declared.span.Span.{Span}
 use Rattle.read.specs.Form.{FormAnswer, Stands, There, list_of, size_answer, slices_within}
 use Rattle.read.proofs.FormLemmas.{size-passed, there_few}
-use Rattle.read.proofs.PlaceLemmas.{Made, Place, bounds_err, bounds_ok, made, place, slices_last, slices_left, words-enough, words-few}
-use Rattle.read.proofs.StandLemmas.{accepted, stands}
+use Rattle.read.proofs.PlaceLemmas.{Made, Place, bounds_err, bounds_ok, made, place, slices_last, slices_left, words_asked}
+use Rattle.read.specs.FormLaws.{accepted}
+use Rattle.read.proofs.StandLemmas.{stands}
 use Rattle.boolean.specs.Bools.{bools_format, bools_list, held_bits, to_bits}
 use Rattle.boolean.specs.BoolsLaws.{first_none, length-held, parts}
 use Rattle.boolean.specs.Form.{BoolsKept, bools_slices, slice_tail}
@@ -91,15 +92,10 @@ module _ (ws : List ℕ) (asked : structure_fault None ws ≡ None) (W : Format 
     tail_place p e = place ws asked a (W.slots + 1) t W.slots k (omega arith) number_is p e
 
     -- question 8, which the slices of the words passed
-    module _ {u : Unit {0}} (passed : There ws a W.slots → Ok u ≡ size_answer a (W.sized (slices_within ws a W.slots))) (p : Span) (e : Ok p ≡ span_answer ws k) where
-      sized_by : (o : Option ℕ) → least_words 2 W.slots (slot ss W.slots) ≡ o → size_answer a ((bools_format W).sized ss) ≡ size_answer a o
-      sized_by o h = ap₂ (λ u v. size_answer a (first_refused u v)) (size-passed a _ _ (passed (omega arith) ∙ ap (λ ss. size_answer a (W.sized ss)) (sym front))) h
-
-      pub tail_few : words_for p.bytes < 2 → (f : Fault) → f ≡ refuse SliceSize k → Err f ≡ size_answer a ((bools_format W).sized ss)
-      tail_few l f q = ap Err (q ∙ ap (refuse SliceSize) number_is) ∙ sym (sized_by (Some W.slots) (words-few 2 W.slots (slot ss W.slots) (omega (arith, (tail_place p e).size))))
-
-      pub tail_enough : 2 ≤ words_for p.bytes → Ok tt ≡ size_answer a ((bools_format W).sized ss)
-      tail_enough l = sym (sized_by None (words-enough 2 W.slots (slot ss W.slots) (omega (arith, (tail_place p e).size))))
+    pub tail_asked : {u : Unit {0}} → (There ws a W.slots → Ok u ≡ size_answer a (W.sized (slices_within ws a W.slots))) → least_words_answer ws k 2 ≡ size_answer a ((bools_format W).sized ss)
+    tail_asked passed =
+        words_asked ws a (W.slots + 1) t W.slots k 2 (omega arith) number_is
+        ∙ ap (λ o. size_answer a (first_refused o (least_words 2 W.slots (slot ss W.slots)))) (sym (size-passed a _ _ (passed (omega arith) ∙ ap (λ rs. size_answer a (W.sized rs)) (sym front))))
 
 -- the answers to question 9 of bools, from those of the words below
 module _ (ws : List ℕ) (asked : structure_fault None ws ≡ None) (whole : AllByRecursion (λ w. w < 2 ^ 64) ws) {F : Type 0} (slices : F → List ℕ → List Slice) (kept : F → List ℕ → Type 0) (W : Format ℕ) (a : ℕ) (t : There ws a (W.slots + 1)) (z : (bools_format W).sized (ss ws asked W a t) ≡ None) where

@@ -1,5 +1,5 @@
 -- Bools: full groups of 64 elements as words of the kind below, the first element lowest, and the tail (word, count).
-use Rattle.std.specs.Prelude.{ℕ, ◌+◌, ◌*◌, ◌/◌, ◌^◌, Bool, true, false, cond, ◌&&◌, List, [], ◌∷◌, ◌++◌, map, length, take, drop, Ok, Err, Result, ◌==◌, nat_eq, nat_le, nat_lt, slice_index_or}
+use Rattle.std.specs.Prelude.{ℕ, ◌+◌, ◌*◌, ◌/◌, ◌^◌, Bool, true, false, cond, ◌&&◌, List, [], ◌∷◌, ◌++◌, map, length, take, drop, Ok, Err, Result, ◌==◌, nat_eq, nat_le, nat_lt}
 use Rattle.std.specs.List.{flat_map}
 use Rattle.area.specs.Digits.{number, digits, chunks}
 use Rattle.area.specs.Fault.{refuse}
@@ -8,7 +8,7 @@ use Rattle.area.specs.declared.fault.Fault.{Fault}
 use Rattle.area.specs.declared.fault.Refusal.TheVariants.{OutOfRange, BitCount}
 use Rattle.boolean.specs.declared.tail.Tail.{Tail}
 use Rattle.column.specs.Column.{Areas, push_answer, taken}
-use Rattle.column.specs.Kind.{CAP, Format, L, slot, word_of, least_words, first_refused, after, reading_within}
+use Rattle.column.specs.Kind.{Format, L, slot, word_of, least_words, first_refused, after, reading_within}
 
 abbrev pub bit : Bool → ℕ
 bit true = 1
@@ -28,7 +28,7 @@ groups xs = map from_bits (chunks 64 (length xs / 64) xs)
 abbrev pub rest : List Bool → List Bool
 rest xs = drop (64 * (length xs / 64)) xs
 
--- the elements that words and a tail of n bits hold, the tail's slice, and the word that holds a place's element
+-- the elements that words and a tail of n bits hold, and the tail's slice
 abbrev pub held_bits : List ℕ → ℕ → ℕ → List Bool
 held_bits ws n w = flat_map (to_bits 64) ws ++ to_bits n w
 
@@ -37,13 +37,6 @@ bools_list ws t = held_bits ws t.count t.word
 
 abbrev pub tail_slice : ℕ → ℕ → Slice
 tail_slice w n = of_words (w ∷ n ∷ [])
-
-abbrev pub word_at : List ℕ → ℕ → ℕ → ℕ
-word_at ws w k = slice_index_or ws k w
-
--- whether slice k is one of the n slices below, and not the tail's after them; else refusal 10
-abbrev pub below_slice : ℕ → ℕ → Result Bool Fault
-below_slice k n = cond (nat_le k n && nat_lt k CAP) (Ok (nat_lt k n)) (Err (refuse OutOfRange 0))
 
 -- bools whose words are of the kind W
 abbrev pub bools_format : Format ℕ → Format Bool

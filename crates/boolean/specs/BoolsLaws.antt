@@ -271,3 +271,10 @@ module _ (ws : List ℕ) (n w : ℕ) where
     bools_written W ss written clean =
         ap₂ (λ rs t. rs ++ t ∷ []) (written ∙ ap W.writing (sym held_stands.0))
         (ap₂ tail_slice (sym (ap from_bits held_stands.1 ∙ from_bits-to_bits n w clean)) (sym length-tail))
+
+-- the slices of words, and a tail's
+pub bools_formed : (n w : ℕ) → n ≤ 63 → w < 2 ^ n → (ss : List Slice) → AllByRecursion WellFormed ss → AllByRecursion WellFormed (ss ++ tail_slice w n ∷ [])
+bools_formed n w few clean ss h =
+    let p : 0 < 2 = omega arith in
+    let m : n ≤ 64 = omega arith in
+    All-append WellFormed ss (tail_slice w n ∷ []) h (of_words-formed (w ∷ n ∷ []) (omega (arith, pow-le-pow_right p m), (omega arith, tt)), tt)

@@ -1,12 +1,12 @@
 // Bools: full groups of 64 as words of the column below, the rest in a tail.
-ghost use Rattle.std.specs.Prelude.{◌≡◌, ◌+◌, ◌*◌, ◌^◌, ◌<◌, ◌≤◌, List, [], ◌∷◌, ◌++◌, length};
+ghost use Rattle.std.specs.Prelude.{◌≡◌, ◌+◌, ◌*◌, ◌^◌, ◌<◌, ◌≤◌, List, [], ◌∷◌, ◌++◌, length, slice_index_or};
 ghost use Rattle.column.specs.Kind.{L};
-ghost use Rattle.boolean.specs.Bools.{bools_list, tail_slice, word_at, bools_format, bools_takes, range_bits, given_bits, bits_pushed, push_bits_answer, below_slice};
-ghost use Rattle.boolean.specs.BoolsLaws.{bools_held, bools_laws, bools_written};
+ghost use Rattle.boolean.specs.Bools.{bools_list, tail_slice, bools_format, bools_takes, range_bits, given_bits, bits_pushed, push_bits_answer};
+ghost use Rattle.boolean.specs.BoolsLaws.{bools_formed, bools_held, bools_laws, bools_written};
 
 use crate::tail::Tail;
 use area::fault::{Fault, Refusal};
-use column::kind::{AsBytes, Column, Index, Kind, MAX_LEN, MAX_WORDS};
+use column::kind::{AsBytes, Column, Index, Kind, MAX_LEN, MAX_WORDS, Side};
 
 #[derive(Drop)]
 pub struct Bools<C: Index<Item = u64>> {
@@ -22,16 +22,6 @@ fn bits_given(bits: u64, count: usize) -> bool
     ensures { result ≡ given_bits bits count }
 {
     count == 64 || count < 64 && bits >> count == 0
-}
-
-// Whether slice `k` is one of the `n` slices below, and not the tail's, which is the one after them; 10 past both.
-pub(crate) fn is_below(k: usize, n: usize) -> Result<bool, Fault>
-    ensures { result ≡ below_slice k n }
-{
-    if k > n || k >= MAX_WORDS {
-        return Err(Fault::at_start(Refusal::OutOfRange));
-    }
-    Ok(k < n)
 }
 
 impl<C: Column<Elem = u64>> Bools<C> {
@@ -79,7 +69,7 @@ impl<C: Column<Elem = u64>> Bools<C> {
 impl<C: Index<Item = u64>> Bools<C> {
     // The group that element 64 × `block` begins, which is the tail past the full groups.
     fn word(&self, block: usize) -> u64
-        ensures { result ≡ word_at (C.Index.list self.now.values) self.now.tail.word block }
+        ensures { result ≡ slice_index_or (C.Index.list self.now.values) block self.now.tail.word }
     {
         self.values.get(block).unwrap_or(self.tail.word)
     }
@@ -117,7 +107,7 @@ impl<C: Index<Item = u64>> Index for Bools<C> {
     ghost list = { λ c. bools_list (C.Index.list c.values) c.tail };
 
     fn len(&self) -> usize {
-        self.values.len() * 64 + self.tail.count as usize
+        self.tail.len(self.values.len())
     }
 
     fn get(&self, i: usize) -> Result<bool, Fault> {
@@ -128,25 +118,26 @@ impl<C: Index<Item = u64>> Index for Bools<C> {
 impl<C: AsBytes + Index<Item = u64>> AsBytes for Bools<C> {
     ghost slices = { λ c. C.AsBytes.slices c.values ++ tail_slice c.tail.word c.tail.count ∷ [] };
 
+    ghost formed = { λ c. bools_formed c.tail.count c.tail.word c.few c.clean (C.AsBytes.slices c.values) (C.AsBytes.formed c.values) };
+
     fn slices(&self) -> usize {
         (self.values.slices() + 1).min(MAX_WORDS)
     }
 
     fn slice_len(&self, k: usize) -> Result<usize, Fault> {
-        if is_below(k, self.values.slices())? {
-            return self.values.slice_len(k);
+        match Side::of(k, self.values.slices(), 1)? {
+            Side::First(j) => self.values.slice_len(j),
+            Side::Second(_) => Ok(16),
         }
-        Ok(16)
     }
 
     fn slice_word(&self, k: usize, i: usize) -> Result<u64, Fault> {
-        if is_below(k, self.values.slices())? {
-            return self.values.slice_word(k, i);
-        }
-        match i {
-            0 => Ok(self.tail.word),
-            1 => Ok(self.tail.count),
-            _ => Err(Fault::at_start(Refusal::OutOfRange)),
+        match Side::of(k, self.values.slices(), 1)? {
+            Side::First(j) => self.values.slice_word(j, i),
+            Side::Second(_) => [self.tail.word, self.tail.count]
+                .get(i)
+                .copied()
+                .ok_or(Fault::at_start(Refusal::OutOfRange)),
         }
     }
 }

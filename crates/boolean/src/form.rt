@@ -9,10 +9,10 @@ ghost use Rattle.boolean.specs.Bools.{bools_format, bools_list, range_bits};
 ghost use Rattle.read.specs.Form.{Stands, list_of};
 ghost use Rattle.boolean.specs.Form.{BoolsKept, BoolsKept-prop, bools_slices, slice_tail};
 
-use crate::bools::{Bools, is_below};
+use crate::bools::Bools;
 use crate::tail::Tail;
 use area::fault::{Fault, Refusal};
-use column::kind::{AsBytes, Index, Kind, MAX_LEN};
+use column::kind::{AsBytes, Index, Kind, MAX_LEN, Side};
 use decode::decoded::DecodedStore;
 use decode::span::Span;
 use read::form::{FromBytes, ReadForm};
@@ -26,13 +26,6 @@ pub struct BoolsForm<F> {
     values: F,
     place: Span,
     tail: Tail,
-}
-
-// How many elements so many words and a tail have.
-fn count_of(words: usize, tail: Tail) -> usize
-    ensures { result ≡ min (64 * words + tail.count) (2 ^ 64 - 1) }
-{
-    words.saturating_mul(64).saturating_add(tail.count as usize)
 }
 
 // The tail that a slice holds; 9 at the kind's first slice, `at`, where its count is above 63.
@@ -89,19 +82,14 @@ impl<C: ReadForm<Elem = u64> + Index<Item = u64>> ReadForm for Bools<C> {
 impl<C: FromBytes<Elem = u64> + Index<Item = u64>> FromBytes for Bools<C> {
     fn sized<S: Store>(image: &DecodedStore<S>, at: usize) -> Result<(), Fault> {
         C::sized(image, at)?;
-        let last = at.saturating_add(C::slice_count());
-        // a test a kind: the number of words is all that another kind's would share
-        if image.get(last)?.words() < 2 {
-            return Err(Fault::at(Refusal::SliceSize, last));
-        }
-        Ok(())
+        image.has_words(at.saturating_add(C::slice_count()), 2)
     }
 
     fn form<S: Store>(image: &DecodedStore<S>, at: usize) -> Result<BoolsForm<C::Form>, Fault> {
         let values = C::form(image, at)?;
         let place = image.get(at.saturating_add(C::slice_count()))?;
         let tail = tail_of(image.store(), place, at)?;
-        if count_of(C::form_len(&values), tail) > MAX_LEN {
+        if tail.len(C::form_len(&values)) > MAX_LEN {
             return Err(Fault::at(Refusal::SliceContent, at));
         }
         Ok(BoolsForm {
@@ -112,7 +100,7 @@ impl<C: FromBytes<Elem = u64> + Index<Item = u64>> FromBytes for Bools<C> {
     }
 
     fn form_len(form: &BoolsForm<C::Form>) -> usize {
-        count_of(C::form_len(&form.values), form.tail)
+        form.tail.len(C::form_len(&form.values))
     }
 
     fn view_get<S: Store>(view: &View<'_, '_, Bools<C>, S>, i: usize) -> Result<bool, Fault> {
@@ -124,10 +112,10 @@ impl<C: FromBytes<Elem = u64> + Index<Item = u64>> FromBytes for Bools<C> {
         k: usize,
     ) -> Result<usize, Fault> {
         let bools = bools_in(view);
-        if is_below(k, bools.values.slices())? {
-            return bools.values.slice_len(k);
+        match Side::of(k, bools.values.slices(), 1)? {
+            Side::First(j) => bools.values.slice_len(j),
+            Side::Second(_) => Ok(8 * view.form.place.words()),
         }
-        Ok(view.form.place.words() * 8)
     }
 
     fn view_slice_word<S: Store>(
@@ -136,9 +124,9 @@ impl<C: FromBytes<Elem = u64> + Index<Item = u64>> FromBytes for Bools<C> {
         i: usize,
     ) -> Result<u64, Fault> {
         let bools = bools_in(view);
-        if is_below(k, bools.values.slices())? {
-            return bools.values.slice_word(k, i);
+        match Side::of(k, bools.values.slices(), 1)? {
+            Side::First(j) => bools.values.slice_word(j, i),
+            Side::Second(_) => view.form.place.word(view.store, i),
         }
-        view.form.place.word(view.store, i)
     }
 }

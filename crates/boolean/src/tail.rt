@@ -1,5 +1,5 @@
 // The tail that a column of bools keeps: the elements after the last full group, the first lowest.
-ghost use Rattle.std.specs.Prelude.{◌≡◌};
+ghost use Rattle.std.specs.Prelude.{◌≡◌, ◌+◌, ◌-◌, ◌*◌, ◌^◌, min};
 ghost use Rattle.boolean.specs.Tail.{stored_tail};
 
 // What holds of a kept tail, at most 63 elements and unused bits 0, is said where it is kept: a column with a ghost field in
@@ -24,5 +24,12 @@ impl Tail {
             word: word % (1 << count),
             count,
         })
+    }
+
+    // The length of the list that so many words and the tail stand for, or 2^64 - 1 where it is longer.
+    pub(crate) fn len(self, words: usize) -> usize
+        ensures { result ≡ min (64 * words + self.count) (2 ^ 64 - 1) }
+    {
+        words.saturating_mul(64).saturating_add(self.count as usize)
     }
 }

@@ -16,6 +16,7 @@ pub enum Line {
     Word(u64),
 }
 
+// By a match: each case has a text of its own.
 impl fmt::Display for Line {
     ghost output = { λ l. Some (line_text l) };
 

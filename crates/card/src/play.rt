@@ -11,7 +11,8 @@ use column::kind::{AsBytes, Column, Index, Kind};
 use indexed::encode;
 use std::alloc::AllocError;
 
-// Adds the lines of the table's image, which is written to `area`, or of its refusal.
+// Adds the lines of the table's image, which is written to `area`, or of its refusal. The three are lent by the caller, here and
+// below: of a struct that held them, each call would have to say that they are still the ones that were lent.
 fn image_lines<C: Column>(
     table: &C,
     area: &mut [u64],
@@ -31,7 +32,7 @@ fn image_lines<C: Column>(
     Ok(())
 }
 
-// Answers one record: the table after it, and the lines that it adds.
+// Answers one record: the table after it, and the lines that it adds. By a match, as the definitions tell the records.
 pub fn step<C: Column>(
     table: &mut C,
     item: Record<C::Elem>,
@@ -64,6 +65,7 @@ pub fn play<C: Column<Elem = Block>>(
     area: &mut [u64],
     lines: &mut Vec<Line>,
 ) -> Result<(), AllocError>
+    ensures same { C.Column.areas table.new ≡ C.Column.areas table.old }
     ensures after { OnOk result (C.Index.list table.new ≡ list_after (C.Column.takes (C.Column.areas table.old)) C.Kind.format.writing area.old (C.Index.list table.old) (records input.now)) }
     ensures lines { OnOk result (lines.new.items ≡ lines.old.items ++ lines_of (C.Column.takes (C.Column.areas table.old)) C.Kind.format.writing area.old (C.Index.list table.old) (records input.now)) }
     ensures runs { OnOk result (Runs (C.Column.takes (C.Column.areas table.old)) C.Kind.format.writing area.old) }

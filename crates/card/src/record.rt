@@ -18,7 +18,7 @@ pub enum Record<E> {
 pub type Block = (u64, (bool, u8));
 
 impl Record<Block> {
-    // The length in bytes, the kind byte included.
+    // The length in bytes, the kind byte included: by a match, since each record has its own.
     pub fn size(&self) -> usize
         ensures { result ≡ size_of self.now }
     {
@@ -54,13 +54,13 @@ fn push_record(body: &[u8]) -> Option<Record<Block>>
     Some(Record::Push((end, (bad == 1, wear))))
 }
 
-// The records of an input, one after the other. What is no record is refused with 17, which carries the number of the
-// record, and ends the reading.
+// The records of an input, one after the other: those of `rest`, after `read` others. What is no record is refused with 17,
+// which carries the number of the record, and ends the reading.
 #[derive(Drop)]
 pub struct Records<'a> {
-    rest: &'a [u8],
-    read: usize,
-    ghost counted: { read + length rest.now < 2 ^ 64 },
+    pub rest: &'a [u8],
+    pub read: usize,
+    pub ghost counted: { read + length rest.now < 2 ^ 64 },
 }
 
 impl<'a> Records<'a> {

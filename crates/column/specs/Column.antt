@@ -1,11 +1,13 @@
 -- What a column answers, as functions of its list, its slices and the size of its areas.
-use Rattle.std.specs.Prelude.{ℕ, zero, suc, ◌*◌, min, Bool, cond, List, [], ◌∷◌, ◌++◌, length, take, Ok, Err, Result, ◌==◌, nat_le, nat_lt}
+use Rattle.std.specs.Prelude.{ℕ, zero, suc, ◌-◌, ◌*◌, min, Bool, cond, ◌&&◌, List, [], ◌∷◌, ◌++◌, length, take, Ok, Err, Result, ◌==◌, nat_le, nat_lt}
 use Rattle.std.specs.List.{between}
 use Rattle.area.specs.Fault.{refuse}
 use Rattle.area.specs.Slice.{Slice}
 use Rattle.area.specs.declared.fault.Fault.{Fault}
 use Rattle.area.specs.declared.fault.Refusal.TheVariants.{OutOfRange, NotTaken, ImageTooLong}
 use Rattle.column.specs.Kind.{CAP, slot}
+use Rattle.column.specs.declared.kind.Side.{Side}
+use Rattle.column.specs.declared.kind.Side.TheVariants.{First, Second}
 
 -- the areas that a column lives in, by their size in cells
 pub data Areas : Type 0 where
@@ -26,6 +28,10 @@ slice_length ss k = cond (nat_lt k (min (length ss) CAP)) (cond (nat_le (slot ss
 -- word i of slice k: refused as its length is, and with 10 past the slice's words
 abbrev pub word_in_slice : List Slice → ℕ → ℕ → Result ℕ Fault
 word_in_slice ss k i = elim (slice_length ss k) [ Ok n ↦ element (slot ss k).words i | Err f ↦ Err f ]
+
+-- which of n slices and then m others slice k is of, and its number there: refusal 10 past them, and where no image has so many
+abbrev pub side_of : ℕ → ℕ → ℕ → Result Side Fault
+side_of n m k = cond (nat_lt k n) (Ok (First k)) (cond (nat_lt k CAP && nat_lt (k - n) m) (Ok (Second (k - n))) (Err (refuse OutOfRange 0)))
 
 -- the answer to a push that is taken or not, and the list after it
 abbrev pub push_answer : Bool → Result (Unit {0}) Fault

@@ -7,7 +7,7 @@ use Rattle.std.proofs.lemmas.Bool.{and_from, and_parts, leb-true}
 use Rattle.area.specs.Slice.{Slice, WellFormed}
 use Rattle.column.specs.Kind.{Reading, reads, refuses, slot, least_words, first_refused, further, after, reading_within}
 
--- `every` as `AllByRecursion`, and back
+-- `list_all` as `AllByRecursion`, and back
 module _ {E : Type 0} (p : E → Bool) where
   pub all_from_list_all : (xs : List E) → list_all p xs ≡ true → AllByRecursion (λ x. p x ≡ true) xs
   all_from_list_all [] h = tt

@@ -106,9 +106,12 @@ module _ {E : Type 0} (fits : E → Bool) (C : Codec E) (O : OneToOne fits C) wh
         (of_bytes_padded (contents s) u, tt),
       )
 
+  pub run_formed : (xs : List E) → list_all fits xs ≡ true → AllByRecursion WellFormed ((run_format C).writing xs)
+  run_formed xs h = (of_bytes-formed (flat_map C.bytes xs) (strings xs h), tt)
+
   pub run_laws : Laws fits (run_format C)
   run_laws = record {
-    shape = λ xs h. (refl, (of_bytes-formed (flat_map C.bytes xs) (strings xs h.0), tt), (of_bytes_padded (flat_map C.bytes xs) (strings xs h.0), tt));
+    shape = λ xs h. (refl, run_formed xs h.0, (of_bytes_padded (flat_map C.bytes xs) (strings xs h.0), tt));
     return = return;
     sound = λ ss xs a. let h = held_by ss xs a in (h.fit, h.few);
     least = least;

@@ -8,13 +8,14 @@ ghost use Rattle.column.specs.RunLaws.{unsigned_one_to_one};
 pub trait Value: Copy {
     ghost fits: { Self → Bool };
 
-    // The value itself, which is known to fit.
+    // The value itself, which is known to fit: it does nothing else, since no clause of another function may say so of each of
+    // its arguments.
     fn known(self) -> Self
         ensures same { result ≡ self }
         ensures within { fits self ≡ true };
 }
 
-// An impl a type, here and below: the library has no trait over the unsigned numbers that has their bits.
+// An impl for each type, here and below: the library has no trait over the unsigned numbers that has their bits.
 impl Value for u64 {
     ghost fits = { λ x. nat_lt x (2 ^ 64) };
 

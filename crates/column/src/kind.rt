@@ -3,10 +3,10 @@ ghost use Rattle.std.specs.Prelude.{◌≡◌, ℕ, min, Bool, true, List, [], �
 ghost use Rattle.std.specs.List.{AllByRecursion};
 ghost use Rattle.area.specs.Slice.{Slice, WellFormed};
 ghost use Rattle.column.specs.Kind.{Format, Laws, Held, CAP};
-ghost use Rattle.column.specs.Column.{Areas, element, push_answer, pushed, slice_length, word_in_slice};
+ghost use Rattle.column.specs.Column.{Areas, element, push_answer, pushed, side_of, slice_length, word_in_slice};
 
 use crate::element::Value;
-use area::fault::Fault;
+use area::fault::{Fault, Refusal};
 
 // No column holds more elements.
 pub const MAX_LEN: usize = 4_294_967_295;
@@ -43,14 +43,36 @@ impl<'s, I: Index> Index for &'s I {
     }
 }
 
+// Which of two groups of slices, one after the other, a slice is of, with its number there.
+#[derive(Clone, Copy)]
+pub enum Side {
+    First(usize),
+    Second(usize),
+}
+
+impl Side {
+    // The side that slice `k` is of, where the first has `n` slices and the second `m`; 10 past both, and where no image has
+    // so many.
+    pub fn of(k: usize, n: usize, m: usize) -> Result<Side, Fault>
+        ensures { result ≡ side_of n m k }
+    {
+        if k < n {
+            return Ok(Side::First(k));
+        }
+        if k >= MAX_WORDS || k - n >= m {
+            return Err(Fault::at_start(Refusal::OutOfRange));
+        }
+        Ok(Side::Second(k - n))
+    }
+}
+
 // What gives slices, of which images are made.
 pub trait AsBytes: Index {
     ghost slices: { Self → List Slice };
 
     // The number of slices, or 536,870,911 where there are more.
     fn slices(&self) -> usize
-        ensures count { result ≡ min (length (slices self.now)) CAP }
-        ensures formed { AllByRecursion WellFormed (slices self.now) };
+        ensures { result ≡ min (length (slices self.now)) CAP };
 
     // The byte length of slice `k`; 10 past the slices, 15 where no image holds so many bytes.
     fn slice_len(&self, k: usize) -> Result<usize, Fault>
@@ -59,6 +81,8 @@ pub trait AsBytes: Index {
     // Word `i` of slice `k`; refused as its length is, and with 10 past the slice's words.
     fn slice_word(&self, k: usize, i: usize) -> Result<u64, Fault>
         ensures { result ≡ word_in_slice (slices self.now) k i };
+
+    ghost formed: { (s : Self) → AllByRecursion WellFormed (slices s) };
 }
 
 // An element type, a number of slices, a writing and a reading, with the laws that join them.

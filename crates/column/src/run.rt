@@ -5,7 +5,7 @@ ghost use Rattle.std.specs.List.{flat_map, list_all};
 ghost use Rattle.column.specs.Kind.{L, CAP};
 ghost use Rattle.column.specs.Column.{cells as area_of};
 ghost use Rattle.column.specs.Run.{run_format, run_takes};
-ghost use Rattle.column.specs.RunLaws.{run_held, run_laws};
+ghost use Rattle.column.specs.RunLaws.{run_formed, run_held, run_laws};
 
 use crate::element::{Element, Value};
 use crate::kind::{AsBytes, Column, Index, Kind, MAX_LEN, MAX_WORDS};
@@ -78,6 +78,8 @@ impl<'a, T: Element> Run<'a, T> {
 
 impl<'a, T: Element> AsBytes for Run<'a, T> {
     ghost slices = { λ c. (run_format T.Element.codec).writing (take c.len c.cells.now) };
+
+    ghost formed = { λ c. run_formed T.Value.fits T.Element.codec T.Element.one_to_one (take c.len c.cells.now) c.fitting };
 
     fn slices(&self) -> usize {
         1

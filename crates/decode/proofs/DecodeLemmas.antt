@@ -8,8 +8,8 @@ use Rattle.area.specs.Slice.{words_for, round_up}
 use Rattle.area.specs.declared.fault.Fault.{Fault}
 use Rattle.area.specs.declared.fault.Refusal.{Refusal}
 use Rattle.area.specs.declared.fault.Refusal.TheVariants.{ByteLength, NoWord, FirstWord, IndexCut, EndOutside, EndBeforeStart, OutOfRange}
-use Rattle.storage.specs.Store.{word_at}
-use Rattle.storage.proofs.StoreLemmas.{word_at_none, word_at_some, word_at_window}
+use Rattle.std.specs.List.{slice_get}
+use Rattle.storage.proofs.StoreLemmas.{slice_get_missing, slice_get_found, slice_get_window}
 use Rattle.column.specs.Column.{element}
 use Rattle.column.specs.Kind.{CAP, slot}
 use Rattle.column.proofs.ColumnLemmas.{element_past}
@@ -124,7 +124,7 @@ front_at : (ws : List ℕ) (n k : ℕ) → k < n → get_or (take n (drop 1 ws))
 front_at ws n k h = get_or-take n (drop 1 ws) k 0 h ∙ (get_or-drop 1 ws k 0 ∙ ap (λ j. get_or ws j 0) (omega arith))
 
 -- the ends are asked one after the other: word e as number k, after those before it were passed
-module _ (ws : List ℕ) (n : ℕ) (l : n < length ws) (k e p : ℕ) (h : k < n) (x : Option ℕ) (there : x ≡ word_at ws (k + 1)) (is : x ≡ Some e) where
+module _ (ws : List ℕ) (n : ℕ) (l : n < length ws) (k e p : ℕ) (h : k < n) (x : Option ℕ) (there : x ≡ slice_get ws (k + 1)) (is : x ≡ Some e) where
   abbrev ends : List ℕ
   ends = take n (drop 1 ws)
 
@@ -132,7 +132,7 @@ module _ (ws : List ℕ) (n : ℕ) (l : n < length ws) (k e p : ℕ) (h : k < n)
     next_end : ends_fault (8 * length ws) 0 (8 * suc n) ends ≡ ends_fault (8 * length ws) k p (e ∷ drop (k + 1) ends)
     next_end =
         sym before ∙ at_drop_more (ends_fault (8 * length ws) k p) ends k 0 (rw (length-take, length-drop) (omega arith))
-        ∙ ap (λ v. ends_fault (8 * length ws) k p (v ∷ drop (k + 1) ends)) (front_at ws n k h ∙ (word_at_some ws (k + 1) e (sym is ∙ there)).1)
+        ∙ ap (λ v. ends_fault (8 * length ws) k p (v ∷ drop (k + 1) ends)) (front_at ws n k h ∙ (slice_get_found ws (k + 1) e (sym is ∙ there)).1)
 
     pub ends_outside : 8 * length ws < e → ends_fault (8 * length ws) 0 (8 * suc n) ends ≡ Some (refuse EndOutside k)
     ends_outside m = next_end ∙ rw (lt-leb e (8 * length ws) m)
@@ -182,12 +182,12 @@ module _ (ws : List ℕ) (h : structure_fault None ws ≡ None) where
     span_inside = let i = (asked-passed None ws h).0 in let e = ends-between in record { within = omega arith; short = omega arith }
 
     -- the place as it is read from words k and k + 1 of the index
-    pub never_none : (j : ℕ) → j ≤ k + 1 → (x : Option ℕ) → x ≡ word_at ws j → x ≡ None → ⊥
-    never_none j m x there is = let u = slices_under in omega (arith, word_at_none ws j (sym is ∙ there))
+    pub never_none : (j : ℕ) → j ≤ k + 1 → (x : Option ℕ) → x ≡ slice_get ws j → x ≡ None → ⊥
+    never_none j m x there is = let u = slices_under in omega (arith, slice_get_missing ws j (sym is ∙ there))
 
-    module _ (a b : ℕ) (x y : Option ℕ) (lower : x ≡ word_at ws k) (upper : y ≡ word_at ws (k + 1)) (p : x ≡ Some a) (q : y ≡ Some b) where
+    module _ (a b : ℕ) (x y : Option ℕ) (lower : x ≡ slice_get ws k) (upper : y ≡ slice_get ws (k + 1)) (p : x ≡ Some a) (q : y ≡ Some b) where
       words_read : (get_or ws k 0 ≡ a) × (get_or ws (suc k) 0 ≡ b)
-      words_read = ((word_at_some ws k a (sym p ∙ lower)).1, rw add-one at (word_at_some ws (k + 1) b (sym q ∙ upper)).1)
+      words_read = ((slice_get_found ws k a (sym p ∙ lower)).1, rw add-one at (slice_get_found ws (k + 1) b (sym q ∙ upper)).1)
 
       pub span_read : (round_up a ≤ b) × (b ≤ 8 * CAP)
       span_read = let i = (asked-passed None ws h).0 in let r = words_read in let e = ends-between in (omega arith, omega arith)
@@ -200,20 +200,20 @@ module _ (ws : List ℕ) (h : structure_fault None ws ≡ None) where
         let a = asked-passed None ws h in
         rw (start k (omega arith), end) at (slot-slices_to ws (first ws) (slice_ends ws) k a.0.whole place)
 
-element-word_at : (ws : List ℕ) (i : ℕ) → ok_or (word_at ws i) (refuse OutOfRange 0) ≡ element ws i
-element-word_at [] i = refl
-element-word_at (w ∷ ws) zero = refl
-element-word_at (w ∷ ws) (suc i) = element-word_at ws i
+element-slice_get : (ws : List ℕ) (i : ℕ) → ok_or (slice_get ws i) (refuse OutOfRange 0) ≡ element ws i
+element-slice_get [] i = refl
+element-slice_get (w ∷ ws) zero = refl
+element-slice_get (w ∷ ws) (suc i) = element-slice_get ws i
 
 -- the words of a slice that lies inside
 module _ (ws : List ℕ) (s : Span) (i : Inside ws s) where
   pub length_span : length (slice_in ws s).words ≡ words_for s.bytes
   length_span = rw (length-take, length-drop) (omega arith)
 
-  pub element_span : (k : ℕ) → k < words_for s.bytes → ok_or (word_at ws (s.from + k)) (refuse OutOfRange 0) ≡ element (slice_in ws s).words k
+  pub element_span : (k : ℕ) → k < words_for s.bytes → ok_or (slice_get ws (s.from + k)) (refuse OutOfRange 0) ≡ element (slice_in ws s).words k
   element_span k h =
-      ap (λ o. ok_or o (refuse OutOfRange 0)) (sym (word_at_window ws s.from (words_for s.bytes) k h (omega arith)))
-      ∙ element-word_at (slice_in ws s).words k
+      ap (λ o. ok_or o (refuse OutOfRange 0)) (sym (slice_get_window ws s.from (words_for s.bytes) k h (omega arith)))
+      ∙ element-slice_get (slice_in ws s).words k
 
   pub element_after : (k : ℕ) → words_for s.bytes ≤ k → Err (refuse OutOfRange 0) ≡ element (slice_in ws s).words k
   element_after k h = sym (element_past (slice_in ws s).words k (omega (arith, length_span)))

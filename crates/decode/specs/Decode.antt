@@ -4,7 +4,7 @@ use Rattle.area.specs.Fault.{refuse}
 use Rattle.area.specs.Slice.{Slice, words_for, round_up, contents}
 use Rattle.area.specs.declared.fault.Fault.{Fault}
 use Rattle.area.specs.declared.fault.Refusal.{Refusal}
-use Rattle.area.specs.declared.fault.Refusal.TheVariants.{ByteLength, NoWord, FirstWord, IndexCut, SliceCount, EndOutside, EndBeforeStart, OutOfRange}
+use Rattle.area.specs.declared.fault.Refusal.TheVariants.{ByteLength, NoWord, FirstWord, IndexCut, SliceCount, EndOutside, EndBeforeStart, SliceSize, OutOfRange}
 use Rattle.column.specs.Kind.{CAP, slot}
 use Rattle.storage.specs.Store.{join_words, length_stands}
 use Rattle.decode.specs.declared.span.Span.{Span}
@@ -69,6 +69,10 @@ span_of ws k = record { from = words_for (slice_index ws k); bytes = slice_index
 
 abbrev pub span_answer : List ℕ → ℕ → Result Span Fault
 span_answer ws k = cond (nat_lt k (length (slices_of ws))) (Ok (span_of ws k)) (Err (refuse OutOfRange 0))
+
+-- refusal 8 where slice k has fewer than n words, and 10 past the slices
+abbrev pub least_words_answer : List ℕ → ℕ → ℕ → Result (Unit {0}) Fault
+least_words_answer ws k n = cond (nat_lt k (length (slices_of ws))) (cond (nat_le n (length (slot (slices_of ws) k).words)) (Ok tt) (Err (refuse SliceSize k))) (Err (refuse OutOfRange 0))
 
 -- the slice at a place, and a place that lies inside words that an image can have
 abbrev pub slice_in : List ℕ → Span → Slice

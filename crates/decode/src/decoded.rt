@@ -1,7 +1,7 @@
 // A store whose index was looked at, so that its slices can be found.
 ghost use Rattle.std.specs.Prelude.{◌≡◌, suc, ◌*◌, ◌<◌, ◌≤◌, length, take, drop, Some, None};
 ghost use Rattle.column.specs.Kind.{CAP, slot};
-ghost use Rattle.decode.specs.Decode.{Inside, ends_fault, index_answer, or_fault, slice_in, slices_of, span_answer, span_of, structure_fault};
+ghost use Rattle.decode.specs.Decode.{Inside, ends_fault, index_answer, or_fault, slice_in, slices_of, least_words_answer, span_answer, span_of, structure_fault};
 
 use crate::span::Span;
 use area::fault::{Fault, Refusal};
@@ -9,7 +9,7 @@ use column::kind::MAX_WORDS;
 use std::alloc::AllocError;
 use storage::store::Store;
 
-// A store that passed the questions but 5. It holds `count` slices.
+// A store that passed the questions but 5. `count` is the number of its slices, so that word 0 is read once.
 #[derive(Drop)]
 pub struct DecodedStore<S: Store> {
     store: S,
@@ -18,7 +18,7 @@ pub struct DecodedStore<S: Store> {
     ghost counted: { count ≡ length (slices_of (S.Store.words store)) },
 }
 
-// By hand, since a `Clone` is not derived over a ghost field.
+// By hand, since a `Clone` is not derived where a struct with type parameters has a ghost field.
 impl<S: Store + Copy> Copy for DecodedStore<S> {}
 
 impl<S: Store + Copy> Clone for DecodedStore<S> {
@@ -45,7 +45,7 @@ fn slices_in<S: Store>(store: &S) -> Result<usize, Fault>
     Ok((first / 8 - 1) as usize)
 }
 
-// Questions 6 and 7 of the `count` slices, one after the other.
+// Questions 6 and 7 of the `count` slices that the index has, one after the other.
 fn ends_stand<S: Store>(store: &S, count: usize) -> Result<(), Fault>
     requires short { length (S.Store.words store.now) ≤ CAP }
     requires under { count < length (S.Store.words store.now) }
@@ -128,5 +128,15 @@ impl<S: Store> DecodedStore<S> {
             from: from as usize,
             bytes: (upper - 8 * from) as usize,
         })
+    }
+
+    // Question 8 of a slice that has to have `words` words at least; 10 past the slices.
+    pub fn has_words(&self, k: usize, words: usize) -> Result<(), Fault>
+        ensures { result ≡ least_words_answer (S.Store.words self.now.store) k words }
+    {
+        if self.get(k)?.words() < words {
+            return Err(Fault::at(Refusal::SliceSize, k));
+        }
+        Ok(())
     }
 }

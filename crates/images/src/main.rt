@@ -31,7 +31,8 @@ use tuple::empties::*;
 use tuple::form::*;
 use tuple::pair::*;
 
-// What prints stands in each program: a function of a library that only prints has nothing to promise.
+// What prints stands in each program, with the data that it is about: a function of a library that only prints has nothing
+// to promise, and examples are read where they are tried.
 
 // Prints a name and how long an admitted list is, or the refusal.
 fn told(rt: &HostRuntime, name: &str, answer: Result<usize, Fault>) -> io::Result<()> {
@@ -64,7 +65,8 @@ fn between_others(words: &[u64]) -> [u64; 18] {
     wide
 }
 
-// Admission from a word area; from a byte area and from a window between other words the answer has to be the same.
+// Admission from a word area; from a byte area and from a window between other words the answer has to be the same. The
+// kind is a number, as C gives it, since numbers of no kind are tried too.
 fn check(rt: &HostRuntime, name: &str, kind: u32, words: &[u64]) -> io::Result<()> {
     let bytes = as_bytes(words);
     let wide = between_others(words);
@@ -129,17 +131,19 @@ fn erase_maps(rt: &HostRuntime) -> io::Result<()> {
     )
 }
 
+const THREE_BLOCKS: [u64; 12] = [48, 64, 72, 72, 88, 91, 64, 2, 190, 2, 3, 0x050303];
+
 // A block table of three blocks, with one word of it changed.
 fn block(rt: &HostRuntime, name: &str, place: usize, word: u64) -> io::Result<()> {
-    let mut words = [48, 64, 72, 72, 88, 91, 64, 2, 190, 2, 3, 0x050303];
-    if place < 12 {
-        words[place] = word;
+    let mut words = THREE_BLOCKS;
+    if let Some(changed) = words.get_mut(place) {
+        *changed = word;
     }
     check(rt, name, 1, &words)
 }
 
 fn block_tables(rt: &HostRuntime) -> io::Result<()> {
-    block(rt, "three blocks", 12, 0)?;
+    check(rt, "three blocks", 1, &THREE_BLOCKS)?;
     block(rt, "head's end outside", 1, 97)?;
     block(rt, "bounds' end outside", 2, 97)?;
     block(rt, "values' end outside", 3, 97)?;
@@ -234,6 +238,7 @@ fn ends<K: FromBytes<Elem = u64>>(rt: &HostRuntime, words: &[u64]) -> io::Result
     }
     let mut cells = [0u64; 1];
     let mut column = Strides::new(Run::new(&mut cells));
+    // a refusal is printed, and then what was appended before it
     if let Err(fault) = append(&mut column, &view, 1, 4) {
         println!(rt; "6 9 10: {fault}")?;
     }

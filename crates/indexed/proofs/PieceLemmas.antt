@@ -1,5 +1,5 @@
 -- Pieces that a sink is given one after the other.
-use Rattle.std.proofs.Common.{◌≡◌, ℕ, w64, zero, suc, ◌+◌, ◌-◌, ◌*◌, ◌%◌, ◌<◌, ◌≤◌, min, cond, eqb, leb, List, [], ◌∷◌, ◌++◌, map, length, get_or, take, drop, replicate, Some, Ok, Err, Result, MatchResult, IsErrAnd, sym, refl, ap, ◌∙◌, subst, ap₂, ⊎_elim, append_assoc, append-nil, arith, length-append, length-drop, take-append-drop, length-take, take_all, take-take, drop-drop, take_at}
+use Rattle.std.proofs.Common.{◌≡◌, ℕ, w64, zero, suc, ◌+◌, ◌-◌, ◌*◌, ◌%◌, ◌<◌, ◌≤◌, min, cond, eqb, leb, List, [], ◌∷◌, ◌++◌, map, length, get_or, take, drop, replicate, Some, Ok, Err, Result, IsErrAnd, sym, refl, ap, ◌∙◌, subst, ap₂, ⊎_elim, append_assoc, append-nil, arith, length-append, length-drop, take-append-drop, length-take, take_all, take-take, drop-drop, take_at}
 use native.Mathlib.Nat.{div-div-eq-div-mul, sub-zero}
 use lib.ListN.{length-map}
 use lib.Seq.{take-length, split_at, get_or_at}
@@ -17,8 +17,8 @@ use Rattle.area.specs.Slice.{Slice, WellFormed, ZeroPadded, words_for, spill, co
 use Rattle.area.specs.declared.fault.Refusal.TheVariants.{NoRoom}
 use Rattle.area.proofs.DigitLemmas.{all_length_digits, chunks_joined_all, get_or-chunks, joined_append, joined_chunks, length-chunks}
 use Rattle.storage.specs.declared.write.WriteBytes.{Ghosts as SinkMembers}
-use Rattle.storage.specs.Store.{word_at}
-use Rattle.storage.proofs.StoreLemmas.{word_at_some}
+use Rattle.std.specs.List.{slice_get}
+use Rattle.storage.proofs.StoreLemmas.{slice_get_found}
 use Rattle.storage.specs.Sink.{piece_answer, taking, room_after, leaving}
 use Rattle.column.specs.Column.{slice_length, word_in_slice}
 use Rattle.column.specs.Kind.{CAP, slot, word_of}
@@ -28,7 +28,7 @@ use Rattle.indexed.specs.Pieces.{joined, Given, Written, pieces, slice_pieces, p
 use Rattle.indexed.specs.declared.write.Counted.{Counted}
 use Rattle.indexed.specs.declared.write.WriteFault.{WriteFault}
 use Rattle.indexed.specs.declared.write.WriteFault.TheVariants.{Full}
-use Rattle.indexed.proofs.ImageLemmas.{err_not_ok, length-ends, length-image, length_ok, length_known, length-slot, word_ok, weight_more, weight-take}
+use Rattle.indexed.proofs.ImageLemmas.{length-ends, length-image, length_ok, length_known, length-slot, word_ok, weight_more, weight-take}
 
 -- how many pieces are given: all that fit, or those before the first that does not
 given_all : (room : ℕ) (ps : List (List ℕ)) → length (joined ps) ≤ room → given room ps ≡ length ps
@@ -121,8 +121,8 @@ length-pieces ss w l =
     omega (arith, length_slices ss w, length-image ss, length-append (map (digits 256 8) (index ss)) (flat_map slice_pieces ss), length-map (index ss) (digits 256 8), length-ends (8 * (1 + length ss)) ss)
 
 -- the words of a store as pieces
-pub store_turn : (ws : List ℕ) (i w : ℕ) (bs : List ℕ) → Some w ≡ word_at ws i → bs ≡ to_le_bytes w64 w → (i < length (map (digits 256 8) ws)) × (bs ≡ get_or (map (digits 256 8) ws) i [])
-store_turn ws i w bs e q = let r = word_at_some ws i w e in piece_of ws i w bs r.0 (sym r.1) q
+pub store_turn : (ws : List ℕ) (i w : ℕ) (bs : List ℕ) → Some w ≡ slice_get ws i → bs ≡ to_le_bytes w64 w → (i < length (map (digits 256 8) ws)) × (bs ≡ get_or (map (digits 256 8) ws) i [])
+store_turn ws i w bs e q = let r = slice_get_found ws i w e in piece_of ws i w bs r.0 (sym r.1) q
 
 -- the pieces of zero-padded slices joined are the bytes of the image's words
 zeros : (bs : List ℕ) → AllByRecursion (λ b. b ≡ 0) bs → bs ≡ replicate (length bs) 0

@@ -1,6 +1,6 @@
 // Writing an image to a sink, piece by piece: each index word, then slice by slice each word, the last cut, and any
 // zero padding.
-ghost use Rattle.std.specs.Prelude.{◌≡◌, ◌≤◌, [], ◌∷◌, map, length, Ok, Some};
+ghost use Rattle.std.specs.Prelude.{◌≡◌, ◌<◌, ◌≤◌, [], ◌∷◌, map, length, Ok, Some};
 ghost use Rattle.std.specs.List.{flat_map, AllByRecursion};
 ghost use Rattle.area.specs.Fault.{refusal_text};
 ghost use Rattle.area.specs.Digits.{digits, chunks};
@@ -12,7 +12,7 @@ ghost use Rattle.indexed.specs.Image.{image, index};
 ghost use Rattle.indexed.specs.Pieces.{Given, Written, refusal_of, slice_pieces};
 ghost use Rattle.indexed.specs.declared.write.WriteFault.TheVariants.{TooLong};
 
-use crate::{length_in_words, next_end};
+use crate::{Imaged, length_in_words};
 use area::fault::{Fault, Refusal};
 use column::kind::AsBytes;
 use std::fmt;
@@ -34,7 +34,7 @@ impl<F> From<Fault> for WriteFault<F> {
     }
 }
 
-// The refusal that it carries, as the programs print it.
+// The refusal that it carries, whichever case carries it, as the programs print it.
 impl<F> fmt::Display for WriteFault<F> {
     ghost output = { λ refused. Some (refusal_text (refusal_of refused)) };
 
@@ -66,77 +66,74 @@ impl<'w, W: WriteBytes> Counted<'w, W> {
     }
 }
 
-// Gives the words of the index. A sink answers at each piece and an area does not, so the loop stands for each, and the
-// step of both in `next_end`.
-fn write_index<A: AsBytes, W: WriteBytes>(
-    item: &A,
-    out: &mut Counted<'_, W>,
-) -> Result<(), WriteFault<W::Error>>
-    requires short { length (image (A.AsBytes.slices item.now)) ≤ CAP }
-    ensures formed { AllByRecursion WellFormed (A.AsBytes.slices item.now) }
-    ensures gives { Gives W.WriteBytes (map (digits 256 8) (index (A.AsBytes.slices item.now))) out.old out.new result }
-{
-    let count = item.slices();
-    let mut end = 8 * (1 + count);
-    out.give(&(end as u64).to_le_bytes())?;
-    for k in 0..count {
-        end = next_end(item, k, end)?;
+impl<'a, A: AsBytes> Imaged<'a, A> {
+    // Gives the words of the index. A sink answers at each piece and an area does not, so the loop stands for each, and the
+    // step of both in `next_end`.
+    fn give_index<W: WriteBytes>(
+        &self,
+        out: &mut Counted<'_, W>,
+    ) -> Result<(), WriteFault<W::Error>>
+        ensures { Gives W.WriteBytes (map (digits 256 8) (index (A.AsBytes.slices self.now.item.now))) out.old out.new result }
+    {
+        let count = self.item.slices();
+        let mut end = 8 * (1 + count);
         out.give(&(end as u64).to_le_bytes())?;
+        for k in 0..count {
+            end = self.next_end(k, end)?;
+            out.give(&(end as u64).to_le_bytes())?;
+        }
+        Ok(())
     }
-    Ok(())
-}
 
-// Gives the words of slice `k`, of `bytes` bytes, the last cut.
-fn write_words<A: AsBytes, W: WriteBytes>(
-    item: &A,
-    k: usize,
-    bytes: usize,
-    out: &mut Counted<'_, W>,
-) -> Result<(), WriteFault<W::Error>>
-    requires formed { WellFormed (slot (A.AsBytes.slices item.now) k) }
-    requires known { slice_length (A.AsBytes.slices item.now) k ≡ Ok bytes }
-    ensures { Gives W.WriteBytes (chunks 8 (words_for (slot (A.AsBytes.slices item.now) k).bytes) (contents (slot (A.AsBytes.slices item.now) k))) out.old out.new result }
-{
-    for i in 0..bytes.div_ceil(8) {
-        let word = item.slice_word(k, i)?.to_le_bytes();
-        let left = bytes - 8 * i;
-        out.give(&word[..left.min(8)])?;
+    // Gives the words of slice `k`, the last cut, and any padding.
+    fn give_slice<W: WriteBytes>(
+        &self,
+        k: usize,
+        out: &mut Counted<'_, W>,
+    ) -> Result<(), WriteFault<W::Error>>
+        requires { k < length (A.AsBytes.slices self.now.item.now) }
+        ensures { Gives W.WriteBytes (slice_pieces (slot (A.AsBytes.slices self.now.item.now) k)) out.old out.new result }
+    {
+        let bytes = self.item.slice_len(k)?;
+        self.give_words(k, bytes, out)?;
+        let cut = bytes % 8;
+        if cut == 0 {
+            return Ok(());
+        }
+        let zeros = [0u8; 8];
+        out.give(&zeros[cut..])
     }
-    Ok(())
-}
 
-// Gives the words of slice `k`, and any padding.
-fn write_slice<A: AsBytes, W: WriteBytes>(
-    item: &A,
-    k: usize,
-    out: &mut Counted<'_, W>,
-) -> Result<(), WriteFault<W::Error>>
-    requires formed { WellFormed (slot (A.AsBytes.slices item.now) k) }
-    requires known { slice_length (A.AsBytes.slices item.now) k ≡ Ok (slot (A.AsBytes.slices item.now) k).bytes }
-    ensures { Gives W.WriteBytes (slice_pieces (slot (A.AsBytes.slices item.now) k)) out.old out.new result }
-{
-    let bytes = item.slice_len(k)?;
-    write_words(item, k, bytes, out)?;
-    let cut = bytes % 8;
-    if cut == 0 {
-        return Ok(());
+    // Gives the words of slice `k`, of `bytes` bytes, the last cut.
+    fn give_words<W: WriteBytes>(
+        &self,
+        k: usize,
+        bytes: usize,
+        out: &mut Counted<'_, W>,
+    ) -> Result<(), WriteFault<W::Error>>
+        requires { slice_length (A.AsBytes.slices self.now.item.now) k ≡ Ok bytes }
+        ensures { Gives W.WriteBytes (chunks 8 (words_for (slot (A.AsBytes.slices self.now.item.now) k).bytes) (contents (slot (A.AsBytes.slices self.now.item.now) k))) out.old out.new result }
+    {
+        for i in 0..bytes.div_ceil(8) {
+            let word = self.item.slice_word(k, i)?.to_le_bytes();
+            let left = bytes - 8 * i;
+            out.give(&word[..left.min(8)])?;
+        }
+        Ok(())
     }
-    let zeros = [0u8; 8];
-    out.give(&zeros[cut..])
-}
 
-// Gives the slices.
-fn write_slices<A: AsBytes, W: WriteBytes>(
-    item: &A,
-    out: &mut Counted<'_, W>,
-) -> Result<(), WriteFault<W::Error>>
-    requires short { length (image (A.AsBytes.slices item.now)) ≤ CAP }
-    ensures { Gives W.WriteBytes (flat_map slice_pieces (A.AsBytes.slices item.now)) out.old out.new result }
-{
-    for k in 0..item.slices() {
-        write_slice(item, k, out)?;
+    // Gives the slices. As of the index, a loop that stops where the sink refuses, and for an area one that does not.
+    fn give_slices<W: WriteBytes>(
+        &self,
+        out: &mut Counted<'_, W>,
+    ) -> Result<(), WriteFault<W::Error>>
+        ensures { Gives W.WriteBytes (flat_map slice_pieces (A.AsBytes.slices self.now.item.now)) out.old out.new result }
+    {
+        for k in 0..self.item.slices() {
+            self.give_slice(k, out)?;
+        }
+        Ok(())
     }
-    Ok(())
 }
 
 // Gives `sink` the image of `item`. A refusal leaves the pieces before the refused one.
@@ -144,9 +141,10 @@ pub fn write<A: AsBytes, W: WriteBytes>(item: &A, sink: &mut W) -> Result<(), Wr
     ensures { Written W.WriteBytes (A.AsBytes.slices item.now) sink.old sink.new result }
 {
     length_in_words(item)?;
+    let imaged = Imaged { item };
     let mut out = Counted { sink, piece: 0 };
-    write_index(item, &mut out)?;
-    write_slices(item, &mut out)
+    imaged.give_index(&mut out)?;
+    imaged.give_slices(&mut out)
 }
 
 // Gives `sink` the words of a store one by one. A refusal leaves the words before the refused one.

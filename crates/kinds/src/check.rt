@@ -17,7 +17,7 @@ fn admitted_len<K: FromBytes, S: Store>(store: &S) -> Result<usize, Fault>
     Ok(validate::<K, &S>(store)?.view().len())
 }
 
-// The same for a kind of the card.
+// The same for a kind of the card: by a match, since each is a type of its own.
 pub fn admit<S: Store>(kind: CardKind, store: &S) -> Result<usize, Fault>
     ensures { result ≡ card_admission kind (S.Store.words store.now) }
 {

@@ -29,7 +29,7 @@ impl TryFrom<u32> for CardKind {
 
     ghost try_from_gives = { λ number kind. kind ≡ kind_numbered number };
 
-    // 17 for a number of no kind.
+    // 17 for a number of no kind. The numbers stand again, since the language converts no number back to a discriminant.
     fn try_from(number: u32) -> Result<CardKind, Fault> {
         match number {
             1 => Ok(CardKind::BlockTable),

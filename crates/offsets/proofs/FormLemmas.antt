@@ -1,24 +1,25 @@
 -- The read form of strides: the form of its bounds, what it answers, and how it is made.
-use Rattle.std.proofs.Common.{◌≡◌, ℕ, ◌+◌, ◌-◌, ◌*◌, ◌^◌, ◌<◌, ◌≤◌, Bool, true, false, not, ◌&&◌, ltb, leb, List, [], ◌∷◌, length, drop, is_some, Some, None, Ok, Err, Option, Result, refl, sym, ap, ◌∙◌, subst, ap₂, ⊎_elim, add-zero, arith}
+use Rattle.std.proofs.Common.{◌≡◌, ℕ, ◌+◌, ◌-◌, ◌*◌, ◌^◌, ◌<◌, ◌≤◌, Bool, true, false, cond, not, ◌&&◌, ltb, leb, List, [], ◌∷◌, length, drop, is_some, Some, None, Ok, Err, Option, Result, refl, sym, ap, ◌∙◌, subst, ap₂, arith}
 use Rattle.std.specs.List.{AllByRecursion}
 use Rattle.std.specs.Option.{SomeIff}
-use Rattle.std.proofs.lemmas.Bool.{cases_lt, and_from, and_left, and_right, le-leb, le-ltb, lt-leb, lt-ltb, true≢false}
+use Rattle.std.proofs.lemmas.Bool.{ltb-true, and_from, and_left, and_right, le-leb, le-ltb, lt-leb, lt-ltb, true≢false}
 use Rattle.area.specs.Fault.{refuse}
-use Rattle.area.specs.Slice.{Slice, of_words, words_for}
+use Rattle.area.specs.Slice.{Slice, of_words}
 use Rattle.area.specs.declared.fault.Fault.{Fault}
-use Rattle.area.specs.declared.fault.Refusal.TheVariants.{SliceContent, SliceSize}
+use Rattle.area.specs.declared.fault.Refusal.TheVariants.{SliceContent}
 use Rattle.column.specs.Column.{element, word_in_slice}
 use Rattle.column.specs.Kind.{CAP, L, after, first_refused, further, least_words, reading_within, reads, slot, word_of}
 use Rattle.column.specs.KindLemmas.{least_words_lem, neither}
 use Rattle.column.specs.Run.{word_run}
 use Rattle.column.proofs.SliceAt.{word_in_slice_right}
-use Rattle.decode.specs.Decode.{Inside, slice_in, slices_of, span_answer, structure_fault}
-use Rattle.decode.proofs.DecodeLemmas.{asked-passed, slices_under, span_past}
+use Rattle.decode.specs.Decode.{Inside, least_words_answer, slice_in, slices_of, span_answer, structure_fault}
+use Rattle.decode.proofs.DecodeLemmas.{asked-passed, slices_under}
 use Rattle.decode.specs.declared.span.Span.{Span}
 use Rattle.read.specs.Form.{FormAnswer, Stands, There, list_of, size_answer, slices_within}
-use Rattle.read.proofs.FormLemmas.{accepted_list, first_slot, there_count}
-use Rattle.read.proofs.PlaceLemmas.{Made, Place, bounds_err, bounds_ok, form_err, made, no_word, place, size_right, slices_right, word_there, words-enough, words-few}
-use Rattle.read.proofs.StandLemmas.{accepted, stands}
+use Rattle.read.proofs.FormLemmas.{accepted_list, first_slot, size-passed, there_count}
+use Rattle.read.proofs.PlaceLemmas.{Made, Place, bounds_err, bounds_ok, form_err, made, no_word, place, size_err, size_right, slices_right, word_there, words_asked}
+use Rattle.read.specs.FormLaws.{accepted}
+use Rattle.read.proofs.StandLemmas.{stands}
 use Rattle.offsets.specs.Form.{StridesKept, strides_slices}
 use Rattle.offsets.specs.Head.{strides_list}
 use Rattle.offsets.specs.Strides.{strides_format}
@@ -56,12 +57,13 @@ module _ (t : StridesForm) (ws : List ℕ) (h : Stands strides_slices StridesKep
   pub given_word : (k i : ℕ) (r : Result ℕ Fault) → 0 < k → r ≡ word_in_slice (word_run.giving (run_slices t.bounds ws)) (k - 1) i → r ≡ word_in_slice ((strides_format word_run).giving (strides_slices t ws)) k i
   given_word k i r p e = e ∙ sym (word_in_slice_right (of_words (slice_in ws t.place).words ∷ []) (word_run.giving (run_slices t.bounds ws)) k i (omega arith) (λ q. omega arith))
 
--- no slice that is found has a number as great as CAP
-pub found : (ws : List ℕ) → structure_fault None ws ≡ None → (k : ℕ) (s : Span) → Ok s ≡ span_answer ws k → k < CAP
-found ws asked k s q = ⊎_elim
-    (λ h. omega (arith, slices_under ws asked, (asked-passed None ws asked).0))
-    (λ h. let e = span_past ws asked k h in let z : ◌≡◌ {A = ℕ} 0 1 = cc in absurd (omega arith))
-    (cases_lt k (length (slices_of ws)))
+-- no slice that is found has a number as great as CAP, whatever is answered of it
+found_by : {X : Type 0} (b : Bool) (r : Result X Fault) (f : Fault) (x : X) → Ok x ≡ cond b r (Err f) → b ≡ true
+found_by true r f x q = refl
+found_by false r f x q = cc
+
+pub found : {X : Type 0} (ws : List ℕ) → structure_fault None ws ≡ None → (k : ℕ) (r : Result X Fault) (f : Fault) (x : X) → Ok x ≡ cond (ltb k (length (slices_of ws))) r (Err f) → k < CAP
+found ws asked k r f x q = omega (arith, slices_under ws asked, (asked-passed None ws asked).0, ltb-true _ _ (found_by _ r f x q))
 
 -- two slices: the head, and behind it the run of bounds
 module _ (ws : List ℕ) (asked : structure_fault None ws ≡ None) (a : ℕ) (t : There ws a 2) where
@@ -78,17 +80,18 @@ module _ (ws : List ℕ) (asked : structure_fault None ws ≡ None) (a : ℕ) (t
     at : Place ws asked a 2 t 0 s
     at = place ws asked a 2 t 0 a (omega arith) (omega arith) s q
 
-    -- question 8
-    pub head_few : (e : Fault) → words_for s.bytes < 2 → e ≡ refuse SliceSize a → Err e ≡ size_answer a ((strides_format word_run).sized pair)
-    head_few e l q =
-        ap Err (q ∙ ap (refuse SliceSize) (sym (add-zero a)))
-        ∙ ap (λ o. size_answer a (first_refused o (further 1 (word_run.sized (drop 1 pair))))) (sym (words-few 2 0 (slot pair 0) (omega (arith, at.size))))
+  -- question 8
+  head_asked : least_words_answer ws a 2 ≡ size_answer a (least_words 2 0 (slot pair 0))
+  head_asked = words_asked ws a 2 t 0 a 2 (omega arith) (omega arith)
 
-    pub head_enough : (r : Result (Unit {0}) Fault) → 2 ≤ words_for s.bytes → r ≡ size_answer (a + 1) (word_run.sized behind) → r ≡ size_answer a ((strides_format word_run).sized pair)
-    head_enough r l e =
-        e ∙ size_right a 1 (a + 1) (word_run.sized behind) refl
-        ∙ ap (λ ss. size_answer a (further 1 (word_run.sized ss))) (sym behind-is)
-        ∙ ap (λ o. size_answer a (first_refused o (further 1 (word_run.sized (drop 1 pair))))) (sym (words-enough 2 0 (slot pair 0) (omega (arith, at.size))))
+  pub head_few : (e : Fault) → Err e ≡ least_words_answer ws a 2 → Err e ≡ size_answer a ((strides_format word_run).sized pair)
+  head_few e l = size_err a (least_words 2 0 (slot pair 0)) (further 1 (word_run.sized (drop 1 pair))) e (l ∙ head_asked)
+
+  pub head_enough : {u : Unit {0}} (r : Result (Unit {0}) Fault) → Ok u ≡ least_words_answer ws a 2 → r ≡ size_answer (a + 1) (word_run.sized behind) → r ≡ size_answer a ((strides_format word_run).sized pair)
+  head_enough r l e =
+      e ∙ size_right a 1 (a + 1) (word_run.sized behind) refl
+      ∙ ap (λ ss. size_answer a (further 1 (word_run.sized ss))) (sym behind-is)
+      ∙ ap (λ o. size_answer a (first_refused o (further 1 (word_run.sized (drop 1 pair))))) (sym (size-passed a _ _ (l ∙ head_asked)))
 
   -- question 9
   module _ (z : (strides_format word_run).sized pair ≡ None) where

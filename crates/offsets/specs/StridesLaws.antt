@@ -248,3 +248,6 @@ module _ (B : Format ℕ) (laws : Laws is_word B) (heavy : (ys : List ℕ) → H
 -- strides whose bounds are a run of words
 pub word_strides_laws : Laws is_word (strides_format word_run)
 word_strides_laws = strides_laws word_run (run_laws is_word (unsigned 8) (unsigned_one_to_one 8 (lit< tt))) (λ ys h. word-run-weight ys h.0)
+
+pub strides_formed : (s n m : ℕ) (cells : List ℕ) → s * n < 2 ^ 64 → list_all is_word (take m cells) ≡ true → n + m ≤ L → AllByRecursion WellFormed ((strides_format word_run).writing (strides_list s n (take m cells)))
+strides_formed s n m cells p f l = (word_strides_laws.shape (strides_list s n (take m cells)) (strides_held s n m cells p f l)).1

@@ -54,10 +54,7 @@ impl<'a> FromBytes for Strides<'a> {
     fn sized<S: Store>(image: &DecodedStore<S>, at: usize) -> Result<(), Fault>
         ensures { There (S.Store.words image.now.store) at 2 → result ≡ size_answer at ((strides_format word_run).sized (slices_within (S.Store.words image.now.store) at 2)) }
     {
-        // a test a kind: the number of words is all that another kind's would share
-        if image.get(at)?.words() < 2 {
-            return Err(Fault::at(Refusal::SliceSize, at));
-        }
+        image.has_words(at, 2)?;
         Run::<u64>::sized(image, at + 1)
     }
 

@@ -16,14 +16,10 @@ pub struct Head {
 
 impl Head {
     // The head of an empty list.
-    pub(crate) fn none() -> Head
-        ensures { result ≡ record { stride = 0; length = 0 } }
-    {
-        Head {
-            stride: 0,
-            length: 0,
-        }
-    }
+    pub(crate) const EMPTY: Head = Head {
+        stride: 0,
+        length: 0,
+    };
 
     // The multiple after those that the head stands for, or none past 2^64 - 1.
     pub(crate) fn next(self) -> Option<u64>

@@ -5,7 +5,7 @@ ghost use Rattle.column.specs.Column.{cells as area_of};
 ghost use Rattle.column.specs.Run.{word_run};
 ghost use Rattle.offsets.specs.Head.{is_next, strides_list};
 ghost use Rattle.offsets.specs.Strides.{Grown, front, strides_format, strides_takes, bounds_at};
-ghost use Rattle.offsets.specs.StridesLaws.{strides_held, word_strides_laws};
+ghost use Rattle.offsets.specs.StridesLaws.{strides_formed, strides_held, word_strides_laws};
 
 use crate::bounds::bounds;
 use crate::head::Head;
@@ -32,7 +32,7 @@ impl<'a> Strides<'a> {
     {
         bounds.clear();
         Strides {
-            head: Head::none(),
+            head: Head::EMPTY,
             bounds,
         }
     }
@@ -89,6 +89,8 @@ impl<'a> Index for Strides<'a> {
 impl<'a> AsBytes for Strides<'a> {
     ghost slices = { λ c. (strides_format word_run).writing (strides_list c.head.stride c.head.length (take c.bounds.len c.bounds.cells.now)) };
 
+    ghost formed = { λ c. strides_formed c.head.stride c.head.length c.bounds.len c.bounds.cells.now c.product c.bounds.fitting c.short };
+
     fn slices(&self) -> usize {
         2
     }
@@ -137,6 +139,7 @@ impl<'a> Column for Strides<'a> {
     ghost written = { λ _. refl };
 
     fn takes(&self, x: u64) -> bool {
+        // which head is of no matter here
         self.len() < MAX_LEN && (self.grown(x).is_some() || self.bounds.takes(x))
     }
 
@@ -152,7 +155,7 @@ impl<'a> Column for Strides<'a> {
     }
 
     fn clear(&mut self) {
-        self.head = Head::none();
+        self.head = Head::EMPTY;
         self.bounds.clear();
     }
 }

@@ -13,7 +13,7 @@ use Rattle.decode.proofs.DecodeLemmas.{asked-passed, asked_uncounted, count_slic
 use Rattle.read.specs.Admission.{admission, content_answer, read_answer}
 use Rattle.read.specs.Form.{FormAnswer, Stands, There, list_of, size_answer, slices_within}
 use Rattle.read.proofs.PlaceLemmas.{made}
-use Rattle.read.proofs.StandLemmas.{accepted}
+use Rattle.read.specs.FormLaws.{accepted}
 
 -- an index that passes questions 1 to 4 has fewer than CAP slices, and of any other no count is asked
 module _ (ws : List ℕ) (n m : ℕ) (p : n ≡ min m CAP) where

@@ -29,6 +29,9 @@ module _ {X : Type 0} (ss : List X) (a n : ℕ) where
   length_part : a + n ≤ length ss → length (take n (drop a ss)) ≡ n
   length_part h = rw (length-take, length-drop) (omega arith)
 
+pub slot_within : (ws : List ℕ) (a n j : ℕ) → j < n → slot (slices_within ws a n) j ≡ slot (slices_of ws) (a + j)
+slot_within ws a n j h = get_or_part (slices_of ws) a n j (record { words = []; bytes = 0 }) h
+
 -- the first slice, and those after it
 pub first_slot : (ss : List Slice) → 0 < length ss → slot ss 0 ∷ drop 1 ss ≡ ss
 first_slot [] h = absurd (omega arith)
@@ -65,7 +68,7 @@ module _ (ws : List ℕ) (asked : structure_fault None ws ≡ None) (a n : ℕ) 
         let q : s ≡ span_of ws k = cc (e ∙ span_here) in
         rw q (
           span_inside ws asked k l,
-          span_slice ws asked k l ∙ ap (slot (slices_of ws)) p ∙ sym (get_or_part (slices_of ws) a n j (record { words = []; bytes = 0 }) h),
+          span_slice ws asked k l ∙ ap (slot (slices_of ws)) p ∙ sym (slot_within ws a n j h),
         )
 
 -- what an answer to question 8 and one to question 9 say

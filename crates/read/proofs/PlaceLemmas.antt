@@ -1,8 +1,8 @@
 -- The slices of a composed kind: the parts of them, their places, and what is answered of them.
-use Rattle.std.proofs.Common.{◌≡◌, ℕ, zero, suc, ◌+◌, ◌^◌, ◌<◌, ◌≤◌, Bool, true, false, cond, List, [], ◌∷◌, ◌++◌, length, get_or, take, drop, Some, None, Ok, Err, Option, sym, refl, ap, ◌∙◌, subst, add-zero, add_assoc, arith}
+use Rattle.std.proofs.Common.{◌≡◌, ℕ, zero, suc, ◌+◌, ◌^◌, ◌<◌, Bool, true, false, cond, leb, List, [], ◌∷◌, ◌++◌, length, get_or, take, drop, Some, None, Ok, Err, Option, sym, refl, ap, ◌∙◌, subst, add-zero, add_assoc, arith}
 use Rattle.std.specs.List.{AllByRecursion}
 use Rattle.std.proofs.lemmas.List.{drop-drop, drop-take, take_all, take_more, take-take}
-use Rattle.std.proofs.lemmas.Bool.{le-leb, lt-leb}
+use Rattle.std.proofs.lemmas.Bool.{lt-ltb}
 use Rattle.area.specs.Fault.{refuse}
 use Rattle.area.specs.Slice.{Slice, words_for}
 use Rattle.area.specs.declared.fault.Fault.{Fault}
@@ -10,11 +10,11 @@ use Rattle.area.specs.declared.fault.Refusal.TheVariants.{SliceContent, SliceSiz
 use Rattle.column.specs.Column.{element}
 use Rattle.column.specs.Kind.{Accepted, Format, Reading, after, first_refused, further, reading_within, least_words, reads, refuses, slot, word_of}
 use Rattle.column.proofs.ColumnLemmas.{element_at_lem}
-use Rattle.decode.specs.Decode.{Inside, slice_in, slices_of, span_answer, structure_fault}
+use Rattle.decode.specs.Decode.{Inside, least_words_answer, slice_in, slices_of, span_answer, structure_fault}
 use Rattle.decode.specs.declared.span.Span.{Span}
 use Rattle.decode.proofs.DecodeLemmas.{length_span}
 use Rattle.read.specs.Form.{FormAnswer, Stands, There, list_of, size_answer, slices_within}
-use Rattle.read.proofs.FormLemmas.{form_read, got, there_count, there_formed}
+use Rattle.read.proofs.FormLemmas.{form_read, got, slot_within, there_count, there_formed}
 use Rattle.read.proofs.StandLemmas.{stands}
 
 -- question 8: refused, of two parts, and of one slice
@@ -28,11 +28,15 @@ module _ (a : ℕ) where
   size_right n b None e = refl
   size_right n b (Some k) e = ap (λ j. Err (refuse SliceSize j)) (ap (λ c. c + k) e ∙ add_assoc a n k)
 
-pub words-few : (n k : ℕ) (s : Slice) → length s.words < n → least_words n k s ≡ Some k
-words-few n k s h = ap (λ b. cond b None (Some k)) (lt-leb n (length s.words) h)
+-- of one slice, number k, that is number j of those from number a on
+words_by : (a j k : ℕ) (b : Bool) → k ≡ a + j → cond b (Ok tt) (Err (refuse SliceSize k)) ≡ size_answer a (cond b None (Some j))
+words_by a j k true e = refl
+words_by a j k false e = ap (λ i. Err (refuse SliceSize i)) e
 
-pub words-enough : (n k : ℕ) (s : Slice) → n ≤ length s.words → least_words n k s ≡ None
-words-enough n k s h = ap (λ b. cond b None (Some k)) (le-leb n (length s.words) h)
+pub words_asked : (ws : List ℕ) (a n : ℕ) → There ws a n → (j k m : ℕ) → j < n → k ≡ a + j → least_words_answer ws k m ≡ size_answer a (least_words m j (slot (slices_within ws a n) j))
+words_asked ws a n t j k m h e =
+    rw (lt-ltb k (length (slices_of ws)) (omega (arith, t, e)), ap (slot (slices_of ws)) e ∙ sym (slot_within ws a n j h))
+    (words_by a j k (leb m (length (slot (slices_within ws a n) j).words)) e)
 
 -- question 9: what a form was made of, and what was refused
 module _ {E Form : Type 0} (slices : Form → List ℕ → List Slice) (kept : Form → List ℕ → Type 0) (ws : List ℕ) (ss : List Slice) where

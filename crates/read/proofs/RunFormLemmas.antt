@@ -5,6 +5,7 @@ use lib.Seq.{take-append-le}
 use Rattle.std.specs.List.{AllByRecursion}
 use Rattle.std.proofs.ByRecursion.{All-get_or}
 use Rattle.std.proofs.lemmas.List.{drop-take, get_or-map}
+use Rattle.std.proofs.lemmas.Option.{slice_get-get_or}
 use Rattle.area.specs.Digits.{number, digits, chunks}
 use Rattle.area.specs.Fault.{refuse}
 use Rattle.area.specs.Slice.{Slice, contents, of_bytes, spill, words_for}
@@ -12,8 +13,8 @@ use Rattle.area.specs.declared.fault.Fault.{Fault}
 use Rattle.area.specs.declared.fault.Refusal.TheVariants.{OutOfRange}
 use Rattle.area.proofs.DigitLemmas.{all_length_digits, bytes_of_bits, get_or-chunks, get_or_joined, length-chunks, length_digits, number_digits, number_digits_low, take-digits}
 use Rattle.area.proofs.SliceLemmas.{length-contents, length-spill}
-use Rattle.storage.specs.Store.{word_at}
-use Rattle.storage.proofs.StoreLemmas.{word_at_in, word_at_some}
+use Rattle.std.specs.List.{slice_get}
+use Rattle.storage.proofs.StoreLemmas.{slice_get_found}
 use Rattle.column.specs.Column.{element, slice_length, word_in_slice}
 use Rattle.column.specs.Element.{Codec, OneToOne, unsigned}
 use Rattle.column.specs.Kind.{CAP, L}
@@ -26,7 +27,7 @@ use Rattle.decode.specs.Decode.{Inside, slice_in}
 use Rattle.decode.specs.declared.span.Span.{Span}
 use Rattle.decode.proofs.PartLemmas.{spill-drop, spill-take}
 use Rattle.read.specs.Form.{Stands, element_at, list_of}
-use Rattle.read.proofs.StandLemmas.{accepted}
+use Rattle.read.specs.FormLaws.{accepted}
 
 -- the first k bytes of word i
 pub spill_at : (ws : List ℕ) (i k : ℕ) → i < length ws → k ≤ 8 → take k (drop (8 * i) (spill ws)) ≡ digits 256 k (get_or ws i 0)
@@ -37,16 +38,16 @@ spill_at ws i k h l =
 
 -- elements that stand from word p on
 module _ (ws : List ℕ) (p i : ℕ) where
-  pub word_stored : p + i < length ws → AllByRecursion (λ w. w < 2 ^ 64) ws → word_at ws (p + i) ≡ Some (element_at (unsigned 8) ws p i)
+  pub word_stored : p + i < length ws → AllByRecursion (λ w. w < 2 ^ 64) ws → slice_get ws (p + i) ≡ Some (element_at (unsigned 8) ws p i)
   word_stored h u =
       let w : ℕ = get_or ws (p + i) 0 in
       let q : 8 * p + 8 * i ≡ 8 * (p + i) = omega arith in
-      word_at_in ws (p + i) 0 h
+      slice_get-get_or ws (p + i) 0 h
       ∙ ap Some (sym (rw (q, spill_at ws (p + i) 8 h (omega arith)) (number_digits 256 8 w (lit< tt) (All-get_or (λ v. v < 2 ^ 64) ws (p + i) 0 h u))))
 
-  pub byte_stored : (w : ℕ) → Some w ≡ word_at ws (p + i / 8) → get_or (digits 256 8 w) (i % 8) 0 ≡ element_at (unsigned 1) ws p i
+  pub byte_stored : (w : ℕ) → Some w ≡ slice_get ws (p + i / 8) → get_or (digits 256 8 w) (i % 8) 0 ≡ element_at (unsigned 1) ws p i
   byte_stored w e =
-      let a = word_at_some ws (p + i / 8) w e in
+      let a = slice_get_found ws (p + i / 8) w e in
       let n : ℕ = 8 * (p + i / 8) + i % 8 in
       let q : 8 * p + 1 * i ≡ n = omega arith in
       let here : get_or (spill ws) n 0 ≡ get_or (digits 256 8 w) (i % 8) 0 =

@@ -1,18 +1,9 @@
--- Accepted slices of a form: the list that they read as, and that the form stands for it.
-use Rattle.std.proofs.Common.{◌≡◌, ℕ, true, List, refl, subst}
+-- A form of accepted slices stands for the list that they read as.
+use Rattle.std.proofs.Common.{◌≡◌, ℕ, List, refl, subst}
 use Rattle.area.specs.Slice.{Slice}
-use Rattle.column.specs.Kind.{Accepted, Format, Reading, reads, refuses}
-use Rattle.read.proofs.FormLemmas.{list_in, reads_list}
-use Rattle.read.specs.Form.{Stands, is_read, list_of}
-
-of_read : {E : Type 0} (r : Reading E) → is_read r ≡ true → r ≡ reads (list_in r)
-of_read (reads xs) h = refl
-of_read (refuses k) h = cc
-
-module _ {E Form : Type 0} {slices : Form → List ℕ → List Slice} {kept : Form → List ℕ → Type 0} where
-  -- what a form stands for is accepted, and read as its list
-  pub accepted : {F : Format E} {t : Form} {ws : List ℕ} → Stands slices kept F t ws → Accepted F (slices t ws) (list_of F (slices t ws))
-  accepted {F} {t} {ws} h = record { count = h.passed.count; formed = h.passed.formed; fitting = h.passed.fitting; reading = of_read (F.reading (slices t ws)) h.passed.read }
+use Rattle.column.specs.Kind.{Accepted, Format}
+use Rattle.read.proofs.FormLemmas.{reads_list}
+use Rattle.read.specs.Form.{Stands, list_of}
 
 module _ {E Form : Type 0} (slices : Form → List ℕ → List Slice) (kept : Form → List ℕ → Type 0) where
   -- a form of accepted slices ss

@@ -1,2 +1,3 @@
 pub mod Admission
 pub mod Form
+pub mod FormLaws

@@ -1,6 +1,5 @@
 // Elements of runs, read from a store.
-ghost use Rattle.std.specs.Prelude.{◌≡◌, suc, ◌+◌, ◌*◌, ◌≤◌, length, Some};
-ghost use Rattle.storage.specs.Store.{word_at};
+ghost use Rattle.std.specs.Prelude.{◌≡◌, suc, ◌+◌, ◌*◌, ◌≤◌, length, Some, slice_get};
 ghost use Rattle.read.specs.Form.{element_at};
 
 use column::element::{Element, Value};
@@ -13,9 +12,10 @@ pub trait Stored: Element {
         ensures { 8 * from + Self.Element.codec.size * suc i ≤ 8 * length (S.Store.words store.now) → result ≡ Some (element_at Self.Element.codec (S.Store.words store.now) from i) };
 }
 
-// Word `i` from word `from` on; none past the store's end.
+// Word `i` from word `from` on; none past the store's end, which is asked first, so that a sum cut at the largest number finds
+// no word.
 fn word_from<S: Store>(store: &S, from: usize, i: usize) -> Option<u64>
-    ensures { result ≡ word_at (S.Store.words store.now) (from + i) }
+    ensures { result ≡ slice_get (S.Store.words store.now) (from + i) }
 {
     if from >= store.count() {
         return None;
@@ -23,7 +23,7 @@ fn word_from<S: Store>(store: &S, from: usize, i: usize) -> Option<u64>
     store.word(from.saturating_add(i))
 }
 
-// An impl a type, as of `Element`.
+// An impl for each type, as of `Element`.
 impl Stored for u64 {
     fn read<S: Store>(store: &S, from: usize, i: usize) -> Option<u64> {
         word_from(store, from, i)

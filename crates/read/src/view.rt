@@ -1,6 +1,7 @@
 // A read form with the store that it is lent: a list, and slices that read as it.
 ghost use Rattle.std.specs.Prelude.{◌≡◌};
 ghost use Rattle.read.specs.Form.{Stands, Stands-prop, list_of};
+ghost use Rattle.read.specs.FormLaws.{given_formed};
 
 use crate::form::{FromBytes, ReadForm};
 use area::fault::Fault;
@@ -17,7 +18,7 @@ pub struct View<'f, 's, K: ReadForm, S: Store> {
     pub ghost stands: { Stands K.ReadForm.slices K.ReadForm.kept K.Kind.format form.now (S.Store.words store.now) } by { Stands-prop K.ReadForm.slices K.ReadForm.kept K.ReadForm.kept_prop K.Kind.format form.now (S.Store.words store.now) },
 }
 
-// Two references, which are copied as they are; by hand, since a `Clone` is not derived over a ghost field.
+// Two references, which are copied as they are; by hand, since a `Clone` is not derived where a struct with type parameters has a ghost field.
 impl<'f, 's, K: ReadForm, S: Store> Copy for View<'f, 's, K, S> {}
 
 impl<'f, 's, K: ReadForm, S: Store> Clone for View<'f, 's, K, S> {
@@ -42,6 +43,8 @@ impl<'f, 's, K: FromBytes, S: Store> Index for View<'f, 's, K, S> {
 
 impl<'f, 's, K: FromBytes, S: Store> AsBytes for View<'f, 's, K, S> {
     ghost slices = { λ v. K.Kind.format.giving (K.ReadForm.slices v.form.now (S.Store.words v.store.now)) };
+
+    ghost formed = { λ v. given_formed K.Kind.laws v.stands };
 
     fn slices(&self) -> usize {
         K::slice_count()

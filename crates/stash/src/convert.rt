@@ -40,7 +40,7 @@ impl<F> From<WriteFault<F>> for ConvertFault<F> {
     }
 }
 
-// The refusal that it carries, as the programs print it.
+// The refusal that it carries, as the programs print it: by a match, since the two are of two types.
 impl<F> fmt::Display for ConvertFault<F> {
     ghost output = { λ refused. Some (refusal_text (carried refused)) };
 

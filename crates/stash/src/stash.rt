@@ -42,7 +42,8 @@ pub enum Event<
     Align(A),
 }
 
-// The answer of a call that acts on Typed tables only.
+// The answer of a call that acts on Typed tables only. A function that lent the column of such a table, for `?`, would have to
+// say in separation logic what the table is once the loan is over.
 fn not_typed() -> Result<(), Fault>
     ensures { result ≡ Err (refuse NotTyped 0) }
 {
@@ -74,7 +75,7 @@ impl<C: Column + FromBytes + Drop, B: Store + Drop, A: Store + Drop> Stash<C, B,
         Ok(Stash::Bytes(validate(store)?))
     }
 
-    // A ready column that is given the table's list.
+    // A ready column that is given the table's list: by a match, here and in `table`, since the states are of three types.
     fn filled(&self, ready: C) -> Result<C, Fault>
         ensures { Filled C.Column ready (holds C.Kind.format (table_of C.Column self.now)) result }
     {
@@ -85,7 +86,8 @@ impl<C: Column + FromBytes + Drop, B: Store + Drop, A: Store + Drop> Stash<C, B,
         }
     }
 
-    // Answers a call by the table's present state and the call together.
+    // Answers a call by the table's present state and the call together: by a match, as the definitions tell the calls. That
+    // what the table holds is a list that the kind writes stands here and on each call, since a history is made of calls.
     pub fn apply<R: Index<Item = C::Elem> + Drop>(
         &mut self,
         event: Event<C, R, B, A>,

@@ -1,4 +1,4 @@
-// Calls that change no table.
+// Calls that change no table: by a match each, since the states are of three types.
 ghost use Rattle.std.specs.Prelude.{◌≡◌};
 ghost use Rattle.column.specs.Kind.{Held};
 ghost use Rattle.indexed.specs.Image.{byte_length_answer, word_length_answer};

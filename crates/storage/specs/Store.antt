@@ -1,14 +1,9 @@
 -- Stores: lists of words, and what becomes one.
-use Rattle.std.specs.Prelude.{◌≡◌, ℕ, ◌/◌, ◌%◌, Bool, true, false, ◌&&◌, List, map, length, Ok, Err, Option, Result, ◌==◌, nat_le}
-use Rattle.std.specs.List.{slice_get}
+use Rattle.std.specs.Prelude.{◌≡◌, ℕ, ◌/◌, ◌%◌, Bool, true, false, ◌&&◌, List, map, length, Ok, Err, Result, ◌==◌, nat_le}
 use Rattle.area.specs.Digits.{number, chunks}
 use Rattle.area.specs.Fault.{refuse}
 use Rattle.area.specs.declared.fault.Fault.{Fault}
 use Rattle.area.specs.declared.fault.Refusal.TheVariants.{ByteLength}
-
--- the word at a place, or none
-abbrev pub word_at : List ℕ → ℕ → Option ℕ
-word_at = slice_get
 
 -- the words of bytes eight by eight; bytes after the last eight are left out
 abbrev pub join_words : List ℕ → List ℕ

@@ -1,8 +1,8 @@
 // Stores: what a stored image is read from. A store means a list of words, and asking alters nothing.
-ghost use Rattle.std.specs.Prelude.{◌≡◌, ℕ, ◌+◌, ◌^◌, ◌<◌, ◌≤◌, true, List, length, take, drop, slice_index};
+ghost use Rattle.std.specs.Prelude.{◌≡◌, ℕ, ◌+◌, ◌^◌, ◌<◌, ◌≤◌, true, List, length, take, drop, slice_get, slice_index};
 ghost use Rattle.std.specs.List.{AllByRecursion};
 ghost use Rattle.storage.specs.StoreLaws.{all_fit, joined_whole, window_whole};
-ghost use Rattle.storage.specs.Store.{join_words, length_stands, word_at, StoreLike};
+ghost use Rattle.storage.specs.Store.{join_words, length_stands, StoreLike};
 
 use area::fault::{Fault, Refusal};
 use area::words::join;
@@ -20,7 +20,7 @@ pub trait Store {
 
     // The word at place `i`, or none at or past the count.
     fn word(&self, i: usize) -> Option<u64>
-        ensures { result ≡ word_at (words self.now) i };
+        ensures { result ≡ slice_get (words self.now) i };
 
     // Each of them is a word.
     ghost whole: { (s : Self) → AllByRecursion (λ w. w < 2 ^ 64) (words s) };
@@ -107,7 +107,7 @@ impl<'a> Store for ByteArea<'a> {
     }
 }
 
-// A window of `size` words from place `from` on over any store.
+// A window of `size` words from place `from` on over any store: a place and a size are what a window is.
 pub struct Window<S: Store> {
     store: S,
     from: usize,
@@ -116,7 +116,7 @@ pub struct Window<S: Store> {
     ghost in_range: { from + size < 2 ^ 64 },
 }
 
-// By hand, since a `Clone` is not derived over a ghost field.
+// By hand, since a `Clone` is not derived where a struct with type parameters has a ghost field.
 impl<S: Store + Copy> Copy for Window<S> {}
 
 impl<S: Store + Copy> Clone for Window<S> {

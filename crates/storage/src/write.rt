@@ -64,7 +64,8 @@ impl<'a> WriteBytes for ByteSink<'a> {
 
     ghost fault = { λ _ _. record {} };
 
-    // Beside the clauses of the trait: the sink still writes to the area that it was made over.
+    // Beside the clauses of the trait, which have to be written again where one is added: the sink still writes to the area
+    // that it was made over.
     fn write_all(&mut self, bytes: &[u8]) -> Result<(), Full>
         ensures answer { result ≡ piece_answer (length self.old.area.now - self.old.at) bytes.now (record {}) }
         ensures taken { take self.new.at self.new.area.now ≡ taking (length self.old.area.now - self.old.at) (take self.old.at self.old.area.now) bytes.now }
@@ -156,7 +157,7 @@ pub enum QuotaFault<F> {
     Under(F),
 }
 
-// A quota over any sink: at most `limit` bytes in all, of which `count` are taken.
+// A quota over any sink: at most `limit` bytes in all, of which `count` are taken. The bytes are the sink's.
 #[derive(Drop)]
 pub struct Quota<W> {
     sink: W,
@@ -188,7 +189,7 @@ impl<W: WriteBytes> WriteBytes for Quota<W> {
 
     ghost fault = { λ q bs. quota_fault (q.limit - q.count) bs (W.WriteBytes.fault q.sink bs) };
 
-    // Beside the clauses of the trait: the limit stays, and the bytes are counted once they are taken.
+    // Beside the clauses of the trait, written again as above: the limit stays, and the bytes are counted once they are taken.
     fn write_all(&mut self, bytes: &[u8]) -> Result<(), QuotaFault<W::Error>>
         ensures answer { result ≡ piece_answer (quota_room self.old.limit self.old.count (W.WriteBytes.room self.old.sink)) bytes.now (quota_fault (self.new.limit - self.new.count) bytes.now (W.WriteBytes.fault self.new.sink bytes.now)) }
         ensures taken { W.WriteBytes.taken self.new.sink ≡ taking (quota_room self.old.limit self.old.count (W.WriteBytes.room self.old.sink)) (W.WriteBytes.taken self.old.sink) bytes.now }

@@ -1,7 +1,8 @@
 -- The two sides of a form of pairs.
-use Rattle.std.proofs.Common.{◌≡◌, ℕ, ◌+◌, ◌^◌, ◌<◌, eqb, List, [], ◌∷◌, ◌++◌, length, take, drop, zip, None, Ok, Err, Result, sym, refl, ap, ◌∙◌, subst, ap₂, take-append-drop, take_at, drop_at, arith}
+use Rattle.std.proofs.Common.{◌≡◌, ℕ, ◌+◌, ◌^◌, ◌<◌, Bool, true, eqb, is_ok, List, [], ◌∷◌, ◌++◌, length, take, drop, zip, None, Ok, Err, Result, sym, refl, ap, ◌∙◌, subst, ap₂, take-append-drop, take_at, drop_at, arith}
 use lib.ListN.{length-map}
 use Rattle.std.specs.List.{AllByRecursion}
+use Rattle.std.specs.Result.{MatchResult, OkIff}
 use Rattle.std.proofs.lemmas.Bool.{eq-eqb, ne_eqb}
 use Rattle.area.specs.Fault.{refuse}
 use Rattle.area.specs.Slice.{Slice}
@@ -14,11 +15,21 @@ use Rattle.read.specs.declared.form.ReadForm.{Ghosts as FormMembers}
 use Rattle.read.specs.Form.{FormAnswer, Stands, There, list_of, slices_within}
 use Rattle.read.proofs.FormLemmas.{list_in, there_count}
 use Rattle.read.proofs.PlaceLemmas.{Made, bounds_err, bounds_ok, form_err, made, slices_left, slices_right}
-use Rattle.read.proofs.StandLemmas.{accepted, stands}
+use Rattle.read.specs.FormLaws.{accepted}
+use Rattle.read.proofs.StandLemmas.{stands}
 use Rattle.tuple.specs.Form.{PairKept, pair_slices}
 use Rattle.tuple.specs.Pair.{firsts, seconds, pair_format}
 use Rattle.tuple.specs.PairLaws.{sides}
 use Rattle.tuple.specs.declared.form.PairForm.{PairForm}
+
+-- a word that is made a count, or is too large for one
+pub count_is : {X : Type 0} (r : Result ℕ X) (P : Type 0) (Q : X → Type 0) (w n : ℕ) → OkIff r P w → MatchResult r (λ x. ◌≡◌ {A = Result ℕ Fault} (Ok n) (Ok x)) Q → ◌≡◌ {A = Bool} true (is_ok r) → P × (n ≡ w)
+count_is (Ok x) P Q w n c h v = (c.0, cc (h, c.1))
+count_is (Err e) P Q w n c h v = cc
+
+pub no_count : {X : Type 0} (r : Result ℕ X) (P : Type 0) (w : ℕ) (e : X) → OkIff r P w → Err e ≡ r → P → ⊥
+no_count (Ok x) P w e c h = let z : ◌≡◌ {A = ℕ} 0 1 = cc in absurd (omega arith)
+no_count (Err d) P w e c h = c
 
 -- the list and the slices of two sides, each of which stands by itself
 module _ {A B : Type 0} (F : Format A) (G : Format B) (ls rs : List Slice) (count : length ls ≡ F.slots) where

@@ -4,7 +4,7 @@ use lib.ListN.{length-replicate}
 use Rattle.std.specs.List.{AllByRecursion, list_all}
 use Rattle.std.proofs.lemmas.List.{take_more}
 use Rattle.std.proofs.lemmas.Bool.{le-leb, leb-true}
-use Rattle.area.specs.Slice.{Slice, ZeroPadded, weight}
+use Rattle.area.specs.Slice.{Slice, WellFormed, ZeroPadded, weight}
 use Rattle.area.proofs.DigitLemmas.{all_always}
 use Rattle.area.proofs.SliceLemmas.{of_words-formed, of_words_padded}
 use Rattle.tuple.specs.Empties.{empties_format, empties_list}
@@ -56,3 +56,6 @@ empties_laws = record {
   least = least;
   given = given;
 }
+
+pub empties_formed : (n : ℕ) → AllByRecursion WellFormed (empties_format.writing (empties_list n))
+empties_formed n = (empties_laws.shape (empties_list n) (empties_held n)).1

@@ -1,13 +1,7 @@
 -- A pair: tuples, as the slices of the firsts and then those of the seconds.
-use Rattle.std.specs.Prelude.{ℕ, ◌+◌, ◌-◌, min, Bool, false, cond, ◌&&◌, List, ◌++◌, map, length, take, drop, zip, Ok, Err, Result, ◌==◌, nat_lt}
-use Rattle.area.specs.Fault.{refuse}
-use Rattle.area.specs.Slice.{Slice}
-use Rattle.area.specs.declared.fault.Fault.{Fault}
-use Rattle.area.specs.declared.fault.Refusal.TheVariants.{OutOfRange}
+use Rattle.std.specs.Prelude.{◌+◌, Bool, false, ◌&&◌, List, ◌++◌, map, length, take, drop, zip, ◌==◌}
 use Rattle.column.specs.Column.{Areas, none, cells, beside}
-use Rattle.column.specs.Kind.{CAP, Format, first_refused, further, after, reading_within}
-use Rattle.tuple.specs.declared.pair.Side.{Side}
-use Rattle.tuple.specs.declared.pair.Side.TheVariants.{First, Second}
+use Rattle.column.specs.Kind.{Format, first_refused, further, after, reading_within}
 
 abbrev pub firsts : {A B : Type 0} → List (A × B) → List A
 firsts = map (λ p. p.0)
@@ -31,7 +25,3 @@ abbrev pub pair_takes : {A B : Type 0} → (Areas → List A → A → Bool) →
 pair_takes f g none xs x = false
 pair_takes f g (cells n) xs x = false
 pair_takes f g (beside a b) xs x = f a (firsts xs) x.0 && g b (seconds xs) x.1
-
--- the side that slice k of a pair is of, ss being the first side's: refusal 10 where no image has so many slices
-abbrev pub side_of : List Slice → ℕ → Result Side Fault
-side_of ss k = cond (nat_lt k (min (length ss) CAP)) (Ok (First k)) (cond (nat_lt k CAP) (Ok (Second (k - length ss))) (Err (refuse OutOfRange 0)))

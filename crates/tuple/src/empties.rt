@@ -2,7 +2,7 @@
 ghost use Rattle.std.specs.Prelude.{◌≡◌, ℕ, refl};
 ghost use Rattle.column.specs.Column.{none as no_area};
 ghost use Rattle.tuple.specs.Empties.{empties_format, empties_list, empties_takes};
-ghost use Rattle.tuple.specs.EmptiesLaws.{empties_held, empties_laws};
+ghost use Rattle.tuple.specs.EmptiesLaws.{empties_formed, empties_held, empties_laws};
 
 use area::fault::{Fault, Refusal};
 use column::kind::{AsBytes, Column, Index, Kind};
@@ -41,6 +41,8 @@ impl Index for Empties {
 
 impl AsBytes for Empties {
     ghost slices = { λ c. empties_format.writing (empties_list c.count) };
+
+    ghost formed = { λ c. empties_formed c.count };
 
     fn slices(&self) -> usize {
         1

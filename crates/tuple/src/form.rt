@@ -37,19 +37,14 @@ impl ReadForm for Empties {
 
 impl FromBytes for Empties {
     fn sized<S: Store>(image: &DecodedStore<S>, at: usize) -> Result<(), Fault> {
-        // a test a kind: the number of words is all that another kind's would share
-        if image.get(at)?.words() < 1 {
-            return Err(Fault::at(Refusal::SliceSize, at));
-        }
-        Ok(())
+        image.has_words(at, 1)
     }
 
     fn form<S: Store>(image: &DecodedStore<S>, at: usize) -> Result<EmptiesForm, Fault> {
         let place = image.get(at)?;
         let word = place.word(image.store(), 0)?;
-        let Ok(count) = u32::try_from(word) else {
-            return Err(Fault::at(Refusal::SliceContent, at));
-        };
+        let refused = Fault::at(Refusal::SliceContent, at);
+        let count = u32::try_from(word).map_err(|_| refused)?;
         Ok(EmptiesForm {
             place,
             count: Empties { count },

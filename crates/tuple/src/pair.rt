@@ -1,24 +1,20 @@
 // A pair of columns: tuples, one side in each.
 ghost use Rattle.std.specs.Prelude.{◌≡◌, List, [], ◌++◌, length, zip};
+ghost use Rattle.std.proofs.ByRecursion.{All-append};
+ghost use Rattle.area.specs.Slice.{WellFormed};
 ghost use Rattle.column.specs.Column.{beside};
-ghost use Rattle.tuple.specs.Pair.{pair_format, pair_takes, side_of};
+ghost use Rattle.tuple.specs.Pair.{pair_format, pair_takes};
 ghost use Rattle.tuple.specs.PairLaws.{pair_held, pair_laws, pair_written};
 
 use area::fault::{Fault, Refusal};
 use column::element::Value;
-use column::kind::{AsBytes, Column, Index, Kind, MAX_WORDS};
+use column::kind::{AsBytes, Column, Index, Kind, MAX_WORDS, Side};
 
 #[derive(Drop)]
 pub struct Pair<A: Index, B: Index> {
     pub(crate) first: A,
     pub(crate) second: B,
     ghost level: { length (A.Index.list first) ≡ length (B.Index.list second) },
-}
-
-// The side that a slice is of, with its number there.
-enum Side {
-    First(usize),
-    Second(usize),
 }
 
 impl<A: Column, B: Column> Pair<A, B> {
@@ -47,23 +43,10 @@ impl<A: Index, B: Index> Index for Pair<A, B> {
     }
 }
 
-impl<A: AsBytes, B: AsBytes> Pair<A, B> {
-    fn side(&self, k: usize) -> Result<Side, Fault>
-        ensures { result ≡ side_of (A.AsBytes.slices self.now.first) k }
-    {
-        let n = self.first.slices();
-        if k < n {
-            return Ok(Side::First(k));
-        }
-        if k >= MAX_WORDS {
-            return Err(Fault::at_start(Refusal::OutOfRange));
-        }
-        Ok(Side::Second(k - n))
-    }
-}
-
 impl<A: AsBytes, B: AsBytes> AsBytes for Pair<A, B> {
     ghost slices = { λ c. A.AsBytes.slices c.first ++ B.AsBytes.slices c.second };
+
+    ghost formed = { λ c. All-append WellFormed (A.AsBytes.slices c.first) (B.AsBytes.slices c.second) (A.AsBytes.formed c.first) (B.AsBytes.formed c.second) };
 
     fn slices(&self) -> usize {
         self.first
@@ -73,14 +56,14 @@ impl<A: AsBytes, B: AsBytes> AsBytes for Pair<A, B> {
     }
 
     fn slice_len(&self, k: usize) -> Result<usize, Fault> {
-        match self.side(k)? {
+        match Side::of(k, self.first.slices(), self.second.slices())? {
             Side::First(j) => self.first.slice_len(j),
             Side::Second(j) => self.second.slice_len(j),
         }
     }
 
     fn slice_word(&self, k: usize, i: usize) -> Result<u64, Fault> {
-        match self.side(k)? {
+        match Side::of(k, self.first.slices(), self.second.slices())? {
             Side::First(j) => self.first.slice_word(j, i),
             Side::Second(j) => self.second.slice_word(j, i),
         }

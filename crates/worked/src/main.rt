@@ -14,7 +14,8 @@ use storage::write::*;
 use tuple::empties::*;
 use tuple::pair::*;
 
-// What prints stands in each program: a function of a library that only prints has nothing to promise.
+// What prints stands in each program, with the data that it is about: a function of a library that only prints has nothing
+// to promise, and examples are read where they are tried.
 
 // Prints a name and an answer, or its refusal.
 fn told<T: fmt::Display + Drop, E: fmt::Display + Drop>(

@@ -11,11 +11,11 @@ returns g c =
     record {
       answer = encode_answer_lem ss a c.args.place _ w (omega arith);
       after = encode_after ss a c.args.place c.in_ok-words.words _ c.write_slices.new.part w (omega arith) (omega arith)
-          (image_left ss (between c.args.place (c.args.place + c.in_ok-words.words) a) c.write_index.new.part c.write_slices.new.part _ (omega (arith, c.slices.ensures.count, (words_ok ss _ w).1, length-image ss, length-index ss)) (length-part ss a c.args.place _ w (omega arith)) c.write_index.ensures.after c.write_slices.ensures.after);
+          (image_left ss (between c.args.place (c.args.place + c.in_ok-words.words) a) c.write_index.new.part c.write_slices.new.part _ (omega (arith, c.slices.ensures, (words_ok ss _ w).1, length-image ss, length-index ss)) (length-part ss a c.args.place _ w (omega arith)) c.write_index.ensures.after c.write_slices.ensures.after);
     }
 
-pub write_slices-requires-clause-room : goal.write_slices-requires-clause-room
-write_slices-requires-clause-room g c =
+pub write_slices-requires : goal.write_slices-requires
+write_slices-requires g c =
     let ss = g.A.AsBytes.slices c.args.item.now in
     let w = c.in_ok-words.ensures in
-    omega (arith, c.slices.ensures.count, words_ok ss _ w, length-image ss, length-words_of ss, length-part ss c.args.area.now c.args.place _ w (omega arith), c.write_index.auto.part)
+    omega (arith, c.slices.ensures, words_ok ss _ w, length-image ss, length-words_of ss, length-part ss c.args.area.now c.args.place _ w (omega arith), c.write_index.auto.part)

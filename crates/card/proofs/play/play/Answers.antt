@@ -34,5 +34,8 @@ returns-clause-lines g c =
     (left_none (g.C.Column.takes (g.C.Column.areas c.args.table.now)) g.C.Kind.format.writing c.args.area.now _ (g.C.Index.list c.loop-item.table) _ c.loop-item.lines.items _
     c.loop-item.item-iterator.rest.now c.loop-item.item-iterator.read c.loop-item.invariant.1 (search rules)).1
 
+pub returns-clause-same : goal.returns-clause-same
+returns-clause-same g c = c.loop-item.invariant.0
+
 pub returns-clause-runs : goal.returns-clause-runs
 returns-clause-runs g c = runs _ _ _

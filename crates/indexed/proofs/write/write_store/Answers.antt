@@ -1,12 +1,12 @@
 use Rattle.std.proofs.Common.{map, refl, arith, rules}
 use lib.ListN.{length-map}
 use Rattle.area.specs.Digits.{digits}
-use Rattle.storage.proofs.StoreLemmas.{word_at_none}
+use Rattle.storage.proofs.StoreLemmas.{slice_get_missing}
 use Rattle.indexed.proofs.PieceLemmas.{answered, stop_at, stops, store_turn, took_all, took_more}
 use Rattle.indexed.proofs.write.write_store.Goals as goal
 
 pub returns-in_default : goal.returns-in_default
-returns-in_default g c = absurd (omega (arith, word_at_none (g.S.Store.words c.args.store.now) c.loop-i.i c.in_default.ensures, c.count-i-end.ensures))
+returns-in_default g c = absurd (omega (arith, slice_get_missing (g.S.Store.words c.args.store.now) c.loop-i.i c.in_default.ensures, c.count-i-end.ensures))
 
 pub returns-in_err-give : goal.returns-in_err-give
 returns-in_err-give g c =

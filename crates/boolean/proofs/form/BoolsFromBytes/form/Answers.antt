@@ -14,13 +14,13 @@ returns-in_err-tail g c t z =
     c.slice_count.result c.saturating_add.result c.slice_count.ensures c.saturating_add.ensures c.in_ok-place.place c.in_ok-place.ensures.answer
     c.in_err-tail.field-0.0 (rw c.store.ensures at c.in_err-tail.ensures))
 
-pub returns-then-count_of-gt-MAX_LEN : goal.returns-then-count_of-gt-MAX_LEN
-returns-then-count_of-gt-MAX_LEN g c t z =
+pub returns-then-len-gt-MAX_LEN : goal.returns-then-len-gt-MAX_LEN
+returns-then-len-gt-MAX_LEN g c t z =
     let d = c.args.image.now in
     let ws = g.S.Store.words d.store in
     too_long ws d.asked (g.met.S.Store.whole d.store) g.C.ReadForm.slices g.C.ReadForm.kept g.C.Kind.format c.args.at t z c.in_ok-values.values c.in_ok-values.ensures
     c.slice_count.result c.saturating_add.result c.slice_count.ensures c.saturating_add.ensures c.in_ok-place.place c.in_ok-place.ensures.answer
-    c.in_ok-tail.tail (rw c.store.ensures at c.in_ok-tail.ensures) c.form_len.result c.count_of.result (c.form_len.ensures ws) c.count_of.ensures c.if-count_of-gt-MAX_LEN.true c.at.result c.at.ensures
+    c.in_ok-tail.tail (rw c.store.ensures at c.in_ok-tail.ensures) c.form_len.result c.len.result (c.form_len.ensures ws) c.len.ensures c.if-len-gt-MAX_LEN.true c.at.result c.at.ensures
 
 pub returns : goal.returns
 returns g c t z =
@@ -28,4 +28,4 @@ returns g c t z =
     let ws = g.S.Store.words d.store in
     bools_made ws d.asked (g.met.S.Store.whole d.store) g.C.ReadForm.slices g.C.ReadForm.kept g.C.Kind.format c.args.at t z c.in_ok-values.values c.in_ok-values.ensures
     c.slice_count.result c.saturating_add.result c.slice_count.ensures c.saturating_add.ensures c.in_ok-place.place c.in_ok-place.ensures.answer
-    c.in_ok-tail.tail (rw c.store.ensures at c.in_ok-tail.ensures) c.form_len.result c.count_of.result (c.form_len.ensures ws) c.count_of.ensures c.if-count_of-gt-MAX_LEN.false
+    c.in_ok-tail.tail (rw c.store.ensures at c.in_ok-tail.ensures) c.form_len.result c.len.result (c.form_len.ensures ws) c.len.ensures c.if-len-gt-MAX_LEN.false

@@ -6,4 +6,4 @@ use Rattle.boolean.proofs.form.BoolsFromBytes.form_len.Goals as goal
 pub returns : goal.returns
 returns g c ws s =
     let b = below g.C.ReadForm.slices g.C.ReadForm.kept g.C.Kind.format c.args.form.now ws s in
-    omega (arith, c.count_of.ensures, c.form_len.ensures ws b.values, length_list _ _ _ _ _ b)
+    omega (arith, c.len.ensures, c.form_len.ensures ws b.values, length_list _ _ _ _ _ b)

@@ -6,7 +6,7 @@ use Rattle.offsets.proofs.form.StridesFromBytes.form.Goals as goal
 pub overflow_add-at : goal.overflow_add-at
 overflow_add-at g c =
     let d = c.args.image.now in
-    let l = found (g.S.Store.words d.store) d.asked c.args.at c.in_ok-place.place c.in_ok-place.ensures.answer in
+    let l = found (g.S.Store.words d.store) d.asked c.args.at _ _ c.in_ok-place.place c.in_ok-place.ensures.answer in
     omega arith
 
 pub returns-in_err-bounds : goal.returns-in_err-bounds
