@@ -1,4 +1,4 @@
-/* Images good and bad, checked as a boot loader would check them. Prints a line for each, and fails on the first answer
+/* Images good and bad, checked and converted as a boot loader would. Prints a line for each, and fails on the first answer
  * that is not the one wanted. */
 #include "check_image.h"
 
@@ -57,6 +57,54 @@ static int differs(const char *name, uint32_t answer, uint32_t wanted)
     return 1;
 }
 
+/* Converts a stored image with an `out` of so many bytes, and compares the answer, the length and the words with the wanted. */
+static int converts(const char *name, const struct image *image, size_t cells, size_t room, uint32_t wanted, const uint64_t *words, size_t count)
+{
+    uint8_t bytes[8 * MOST], out[8 * MOST];
+    uint64_t ends[MOST], bad[MOST];
+    uint8_t wear[8 * MOST];
+    size_t length = 77;
+    int wrong = 0;
+    bytes_of(image, bytes);
+    memset(out, 0xee, sizeof out);
+    uint32_t answer = convert_image(image->kind, bytes, 8 * image->words, ends, cells, bad, cells, wear, 8 * cells, out, room, &length);
+    wrong += differs(name, answer, wanted);
+    if (length != (wanted == 0 ? 8 * count : 77)) {
+        printf("%s: length %zu\n", name, length);
+        wrong++;
+    }
+    for (size_t i = 0; i < sizeof out; i++) {
+        uint8_t byte = i < 8 * count ? (uint8_t)(words[i / 8] >> (8 * (i % 8))) : 0xee;
+        if (out[i] != byte) {
+            printf("%s: byte %zu of the image is %u, not %u\n", name, i, (unsigned)out[i], (unsigned)byte);
+            return wrong + 1;
+        }
+    }
+    return wrong;
+}
+
+/* The boot step: images that are rewritten, and refusals of the image, of the memory and of the room. */
+static int conversions(void)
+{
+    static const struct image dirty = {"", CARD_ERASE_MAP, 0, 10, {32, 56, 64, 80, 5, 1, 7, 10, 1, 1}};
+    static const struct image blocks = {"", CARD_BLOCK_TABLE, 0, 12, {48, 64, 72, 72, 88, 91, 64, 2, 190, 2, 3, 0xff050303}};
+    static const struct image spare = {"", CARD_SPARE_COUNT, 0, 5, {16, 32, 7, 8, 9}};
+    static const struct image cut = {"", CARD_SPARE_COUNT, 0, 1, {16}};
+    static const struct image none = {"", 4, 0, 1, {8}};
+    static const uint64_t map[] = {32, 48, 48, 64, 5, 2, 1, 1};
+    static const uint64_t table[] = {48, 64, 72, 72, 88, 91, 64, 2, 190, 2, 3, 0x050303};
+    static const uint64_t count[] = {16, 24, 7};
+    int bad = 0;
+    bad += converts("an erase map with a word too many", &dirty, MOST, 8 * MOST, 0, map, 8);
+    bad += converts("three blocks with dirty padding", &blocks, MOST, 8 * MOST, 0, table, 12);
+    bad += converts("a spare count and more words", &spare, MOST, 8 * MOST, 0, count, 3);
+    bad += converts("in no cells", &blocks, 0, 8 * MOST, 12, NULL, 0);
+    bad += converts("into two words", &spare, MOST, 16, 14, count, 2);
+    bad += converts("16 alone, converted", &cut, MOST, 8 * MOST, 4, NULL, 0);
+    bad += converts("no kind 4, converted", &none, MOST, 8 * MOST, 17, NULL, 0);
+    return bad;
+}
+
 int main(void)
 {
     uint8_t bytes[8 * MOST];
@@ -76,5 +124,6 @@ int main(void)
     bad += differs("a byte short", check_image(CARD_SPARE_COUNT, bytes, 23), 1);
     bad += differs("a byte over", check_image(CARD_SPARE_COUNT, bytes, 25), 1);
     bad += differs("from an odd address", check_image(CARD_SPARE_COUNT, (memmove(bytes + 1, bytes, 24), bytes + 1), 24), 0);
+    bad += conversions();
     return bad != 0;
 }

@@ -1,5 +1,5 @@
 #!/usr/bin/env bash
-# Builds the static library of the image check and a C program that links it, and runs the program.
+# Builds the static library of the image check and the boot step, and a C program that links it, and runs the program.
 set -euo pipefail
 cd "$(dirname "$0")/.."
 if ! command -v gcc > /dev/null; then

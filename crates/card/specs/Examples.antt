@@ -9,15 +9,16 @@ use Rattle.tuple.specs.Empties.{empties_format}
 use Rattle.column.specs.Kind.{Format}
 use Rattle.column.specs.Run.{run_format, run_takes, word_run}
 use Rattle.offsets.specs.Strides.{strides_format, bounds_at}
-use Rattle.indexed.specs.Image.{image}
+use Rattle.indexed.specs.Image.{image_of}
+use Rattle.read.specs.Admission.{admission}
 
 pub record Example : Type 0 where
   pub given : List ℕ
   pub wanted : List ℕ
 
--- the image of a list, and the two numbers of an answer of `bounds`
-abbrev pub image_of : {E : Type 0} → Format E → List E → List ℕ
-image_of F xs = image (F.writing xs)
+-- the image that words are converted to, and the two numbers of an answer of `bounds`
+abbrev pub converted : {E : Type 0} → Format E → List ℕ → List ℕ
+converted F ws = elim (admission F ws) [ Ok xs ↦ image_of F xs | Err f ↦ [] ]
 
 abbrev pub two_of : Result (ℕ × ℕ) Fault → List ℕ
 two_of (Ok p) = p.0 ∷ p.1 ∷ []
@@ -39,6 +40,8 @@ examples =
     record { given = image_of empties_format (replicate 7 tt); wanted = 16 ∷ 24 ∷ 7 ∷ [] } ∷
     -- two words of zeros, as multiples of 0
     record { given = image_of (bools_format (strides_format word_run)) (replicate 128 false); wanted = 32 ∷ 48 ∷ 48 ∷ 64 ∷ 0 ∷ 2 ∷ 0 ∷ 0 ∷ [] } ∷
+    -- a bound that could be in the head: six words, of which five are left
+    record { given = converted (strides_format word_run) (24 ∷ 40 ∷ 48 ∷ 5 ∷ 1 ∷ 10 ∷ []); wanted = 24 ∷ 40 ∷ 40 ∷ 5 ∷ 2 ∷ [] } ∷
     []
 
 abbrev pub ExamplesHold : Type 0

@@ -7,7 +7,7 @@ use Rattle.area.specs.Slice.{Slice}
 pub use Rattle.area.specs.Slice.{round_up}
 use Rattle.area.specs.declared.fault.Fault.{Fault}
 use Rattle.area.specs.declared.fault.Refusal.TheVariants.{NoRoom, ImageTooLong}
-use Rattle.column.specs.Kind.{CAP}
+use Rattle.column.specs.Kind.{CAP, Format}
 
 -- the byte at which each slice ends, if the first starts at byte p
 abbrev pub ends : ℕ → List Slice → List ℕ
@@ -23,6 +23,10 @@ words_of = flat_map (λ s. s.words)
 
 abbrev pub image : List Slice → List ℕ
 image ss = index ss ++ words_of ss
+
+-- the image of a list of a kind
+abbrev pub image_of : {E : Type 0} → Format E → List E → List ℕ
+image_of F xs = image (F.writing xs)
 
 -- the length of an image, in words and in bytes; refusal 15 past the longest
 abbrev pub word_length_answer : List Slice → Result ℕ Fault

@@ -1,10 +1,11 @@
 -- The claim of the image of a list: it is admitted and reads as it, no other list of a history has it, and no admitted image with the same reading is shorter.
 use Rattle.std.proofs.Common.{◌≤◌, Bool, List, length, Some, ap, ◌∙◌, subst, arith}
+use Rattle.indexed.specs.Image.{image_of}
 use Rattle.column.specs.Kind.{CAP, Format, Held, Laws}
 use Rattle.decode.specs.Decode.{slices_of}
 use Rattle.decode.proofs.DecodeLemmas.{asked_uncounted}
 use Rattle.indexed.proofs.ImageLemmas.{length-image}
-use Rattle.stash.specs.Claim.{Claim, image_of}
+use Rattle.stash.specs.Claim.{Claim}
 use Rattle.stash.proofs.AdmitLemmas.{admission_parts, admitted-accepted, image-admitted, words_hold, written-accepted}
 use Rattle.stash.proofs.HistoryLemmas.{history-holds}
 

@@ -3,13 +3,9 @@ use Rattle.std.specs.Prelude.{◌≡◌, ℕ, ◌^◌, ◌<◌, ◌≤◌, Bool,
 use Rattle.std.specs.List.{AllByRecursion}
 use Rattle.column.specs.Column.{Areas}
 use Rattle.column.specs.Kind.{CAP, Format}
-use Rattle.indexed.specs.Image.{image}
+use Rattle.indexed.specs.Image.{image_of}
 use Rattle.read.specs.Admission.{admission}
 use Rattle.stash.specs.History.{History, Table}
-
--- the image of a list
-abbrev pub image_of : {E : Type 0} → Format E → List E → List ℕ
-image_of F xs = image (F.writing xs)
 
 module _ {E : Type 0} (fits : E → Bool) (F : Format E) where
   -- A converted table: a history that records xs, a `make_typed` and a write that were accepted, and so an image ws of the

@@ -59,6 +59,31 @@ fn fill<C: Column + Drop, R: Index<Item = C::Elem>>(mut ready: C, source: &R) ->
     Ok(ready)
 }
 
+// A table is a list: of its column, or of the view of its image. By a match, here and in `table`, since the states are of
+// three types.
+impl<C: Column + FromBytes + Drop, B: Store + Drop, A: Store + Drop> Index
+    for State<C, Admitted<C, B>, Admitted<C, A>> {
+    type Item = C::Elem;
+
+    ghost list = { λ s. holds C.Kind.format (table_of C.Column s) };
+
+    fn len(&self) -> usize {
+        match self {
+            State::Typed(column) => column.len(),
+            State::Bytes(image) => image.view().len(),
+            State::Align(image) => image.view().len(),
+        }
+    }
+
+    fn get(&self, i: usize) -> Result<C::Elem, Fault> {
+        match self {
+            State::Typed(column) => column.get(i),
+            State::Bytes(image) => image.view().get(i),
+            State::Align(image) => image.view().get(i),
+        }
+    }
+}
+
 impl<C: Column + FromBytes + Drop, B: Store + Drop, A: Store + Drop> Stash<C, B, A> {
     // A fresh table: Typed, and its list empty.
     pub fn new(mut column: C) -> Stash<C, B, A>
@@ -73,17 +98,6 @@ impl<C: Column + FromBytes + Drop, B: Store + Drop, A: Store + Drop> Stash<C, B,
         ensures { AdmittedTable C.Column (B.Store.words store) result }
     {
         Ok(Stash::Bytes(validate(store)?))
-    }
-
-    // A ready column that is given the table's list: by a match, here and in `table`, since the states are of three types.
-    fn filled(&self, ready: C) -> Result<C, Fault>
-        ensures { Filled C.Column ready (holds C.Kind.format (table_of C.Column self.now)) result }
-    {
-        match self {
-            Stash::Typed(column) => fill(ready, column),
-            Stash::Bytes(image) => fill(ready, &image.view()),
-            Stash::Align(image) => fill(ready, &image.view()),
-        }
     }
 
     // Answers a call by the table's present state and the call together: by a match, as the definitions tell the calls. That
@@ -116,7 +130,7 @@ impl<C: Column + FromBytes + Drop, B: Store + Drop, A: Store + Drop> Stash<C, B,
                 if let Stash::Typed(_) = self {
                     return Ok(());
                 }
-                let filled = self.filled(ready)?;
+                let filled = fill(ready, self)?;
                 *self = Stash::Typed(filled);
                 Ok(())
             }

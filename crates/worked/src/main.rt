@@ -1,6 +1,7 @@
 // The worked examples of the format, run: each line is an image, or what a call answers.
 #![tactic(auto)]
 
+use area::fault::Fault;
 use boolean::bools::*;
 use column::append::append;
 use column::element::*;
@@ -8,8 +9,14 @@ use column::kind::*;
 use column::run::*;
 use indexed::encode;
 use indexed::write::write;
+use offsets::form::*;
 use offsets::strides::*;
+use read::form::FromBytes;
+use read::run::*;
+use stash::convert::{convert, convert_into};
+use stash::stash::Stash;
 use std::{fmt, io};
+use storage::store::*;
 use storage::write::*;
 use tuple::empties::*;
 use tuple::pair::*;
@@ -224,10 +231,49 @@ fn sinks(rt: &HostRuntime) -> io::Result<()> {
     hex(rt, "under the quota", &short)
 }
 
+// A stored image with a bound that could be in the head, converted into a word area, under a quota, and into the start of a
+// byte area: six words, of which five are left.
+fn converted(rt: &HostRuntime) -> io::Result<()> {
+    let words = [24, 40, 48, 5, 1, 10];
+    let mut cells = [0u64; 2];
+    let mut area = [0xffu64; 6];
+    match stored_table(&words) {
+        Ok(mut table) => {
+            let ready = Strides::new(Run::new(&mut cells));
+            let mut sink = Quota::new(WordSink::new(&mut area), 48);
+            done(rt, "converted", convert(&mut table, ready, &mut sink))?;
+            drop(sink);
+            hex(rt, "five words", &area)?;
+        }
+        Err(fault) => println!(rt; "converted: {fault}")?,
+    }
+    let mut more_cells = [0u64; 2];
+    let mut bytes = [0xffu8; 41];
+    match stored_table(&words) {
+        Ok(mut table) => {
+            let ready = Strides::new(Run::new(&mut more_cells));
+            told(
+                rt,
+                "into bytes",
+                convert_into(&mut table, ready, &mut bytes),
+            )
+        }
+        Err(fault) => println!(rt; "into bytes: {fault}"),
+    }
+}
+
+// The table of a stored image of strides.
+fn stored_table<'a>(
+    words: &'a [u64],
+) -> Result<Stash<Strides<'a>, WordArea<'a>, WordArea<'a>>, Fault> {
+    Stash::try_from_bytes(WordArea::new(words))
+}
+
 fn main(rt: HostRuntime) -> io::Result<()> {
     strides(&rt)?;
     bools(&rt)?;
     small(&rt)?;
     appends(&rt)?;
-    sinks(&rt)
+    sinks(&rt)?;
+    converted(&rt)
 }
