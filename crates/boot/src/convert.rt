@@ -33,7 +33,7 @@ pub struct Memory<'a> {
 }
 
 // Admits the image of a column's kind, fills the column with its list, and writes the image of that over the start of `area`.
-fn converted<C: Column + FromBytes + Drop>(
+pub fn converted<C: Column + FromBytes + Drop>(
     image: &[u8],
     ready: C,
     area: &mut [u8],

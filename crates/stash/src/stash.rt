@@ -50,8 +50,11 @@ fn not_typed() -> Result<(), Fault>
     Err(Fault::at_start(Refusal::NotTyped))
 }
 
-// Clears a ready column and appends a list to it.
-fn fill<C: Column + Drop, R: Index<Item = C::Elem>>(mut ready: C, source: &R) -> Result<C, Fault>
+// Clears a ready column and appends a list to it. One that does not take the whole list is let go.
+pub fn fill<C: Column + Drop, R: Index<Item = C::Elem>>(
+    mut ready: C,
+    source: &R,
+) -> Result<C, Fault>
     ensures { Filled C.Column ready (R.Index.list source.now) result }
 {
     ready.clear();

@@ -1,0 +1,4 @@
+pub mod Answer
+pub mod Beside
+pub mod Columns
+pub mod Fill
