@@ -4,7 +4,8 @@
 # lib.rs, bytes.rs and primitive.rs, which are no part of this repository. `short` takes seconds, `long` compares at least ten
 # million answers. `record` prints answers of the crate, one a line (compare/src/record.rs), and `replay` compares such lines, from
 # standard input, with the answers here; neither is skipped.
-# BESIDE_LIB names a static library that is built already.
+# compare/run.sh [SOURCES] bench: measures both (docs/BENCHMARKS.md).
+# BESIDE_LIB names a static library that is built already. With COMPARE_PROGRAM the program is put there, and not run.
 set -euo pipefail
 skip() {
     case $mode in
@@ -17,7 +18,7 @@ here=$(cd "$(dirname "$0")" && pwd)
 sources=${COLUMNAR_SRC:-}
 mode=
 case ${1:-} in
-    '' | short | long | record | replay) ;;
+    '' | short | long | record | replay | bench) ;;
     *) sources=$1; shift ;;
 esac
 mode=${1:-}
@@ -84,4 +85,8 @@ cargo build --release --offline --quiet --jobs 2 --features "$functions" > "$dir
     echo "compare/run.sh: the program was not built" >&2
     exit 1
 }
+if [ -n "${COMPARE_PROGRAM:-}" ]; then
+    cp "$dir/target/release/compare" "$COMPARE_PROGRAM"
+    exit 0
+fi
 "$dir/target/release/compare" "$@"

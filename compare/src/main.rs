@@ -1,6 +1,7 @@
 //! Columns, images and admission of this repository beside those of the crate columnar 0.13.3: the same inputs to both, and a
 //! report of what agreed and what differs. Ends with status 1 where something differs that docs/DIFFERENCES.md does not list.
 
+mod bench;
 mod check;
 mod generate;
 mod listed;
@@ -43,18 +44,19 @@ const LONG: Size = Size { strings: generate::MANY, longest: 3, steps: [1, 1, 3],
 
 fn main() -> ExitCode {
     assert!(cfg!(target_endian = "little"), "the crate's images are those of a little-endian host");
-    let arguments: Vec<String> = std::env::args().skip(1).collect();
-    let arguments: Vec<&str> = arguments.iter().map(String::as_str).collect();
+    let given: Vec<String> = std::env::args().skip(1).collect();
+    let arguments: Vec<&str> = given.iter().map(String::as_str).collect();
     let (long, seed) = match arguments[..] {
         ["record"] => return record(1),
         ["record", seed] if seed.parse::<u64>().is_ok() => return record(seed.parse().unwrap_or(1)),
         ["replay"] => return replay(),
         [] | ["short"] => (false, 1),
         ["long"] => (true, 1),
+        ["bench", ..] => return bench::run(&given[1..]),
         ["short", seed] if seed.parse::<u64>().is_ok() => (false, seed.parse().unwrap_or(1)),
         ["long", seed] if seed.parse::<u64>().is_ok() => (true, seed.parse().unwrap_or(1)),
         _ => {
-            eprintln!("compare: the arguments are short, long or record, and a seed; or replay");
+            eprintln!("compare: the arguments are short, long or record, and a seed; or replay, or bench");
             return ExitCode::from(2);
         }
     };
