@@ -16,7 +16,7 @@ use tuple::empties::*;
 use tuple::form::*;
 use tuple::pair::*;
 
-pub trait Scripted<'a>: Column + FromBytes + Drop {
+pub(crate) trait Scripted<'a>: Column + FromBytes + Drop {
     // An empty column in areas of these sizes; none where they are not those of the kind, or the pool has no such areas.
     fn ready(pool: &mut Pool<'a>, sizes: &[u64]) -> Option<Self>;
 

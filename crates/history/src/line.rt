@@ -1,10 +1,12 @@
 // The lines of a script: a call's name, and numbers.
+ghost use Rattle.std.specs.Prelude.{◌≡◌};
+
 use kinds::kinds::CardKind;
 use std::alloc::{AllocError, Global};
 
 // A line that has words, with its number from 0 in the script. What is no number ends them.
 #[derive(Drop)]
-pub struct Line<'a> {
+pub(crate) struct Line<'a> {
     number: usize,
     name: &'a str,
     numbers: Vec<u64>,
@@ -43,7 +45,7 @@ impl<'a> Line<'a> {
     }
 
     // The lines of a script.
-    pub fn all(heap: Global, script: &'a str) -> Result<Vec<Line<'a>>, AllocError> {
+    pub(crate) fn all(heap: Global, script: &'a str) -> Result<Vec<Line<'a>>, AllocError> {
         let mut lines = Vec::new(heap);
         for (k, text) in script.lines().enumerate() {
             if let Some(line) = Line::read(heap, k, text)? {
@@ -53,20 +55,24 @@ impl<'a> Line<'a> {
         Ok(lines)
     }
 
-    pub fn number(&self) -> usize {
+    pub(crate) fn number(&self) -> usize
+        ensures { result ≡ self.now.number }
+    {
         self.number
     }
 
-    pub fn name(&self) -> &'a str {
+    pub(crate) fn name(&self) -> &'a str
+        ensures { result ≡ self.now.name }
+    {
         self.name
     }
 
-    pub fn numbers(&self) -> &[u64] {
+    pub(crate) fn numbers(&self) -> &[u64] {
         &self.numbers
     }
 
     // The kind of the table that the line begins, and the sizes of its column's areas; none where it begins none.
-    pub fn table(&self) -> Option<(CardKind, &[u64])> {
+    pub(crate) fn table(&self) -> Option<(CardKind, &[u64])> {
         if self.name != "kind" {
             return None;
         }

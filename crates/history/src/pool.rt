@@ -1,14 +1,17 @@
 // Lent memory, handed out area by area: what a history lends to its table stays lent.
+ghost use Rattle.std.specs.Prelude.{◌≡◌, length, IfSome};
 
 // What is left of it.
 #[derive(Drop)]
-pub struct Pool<'a> {
+pub(crate) struct Pool<'a> {
     pub words: &'a mut [u64],
     pub bytes: &'a mut [u8],
 }
 
 impl<'a> Pool<'a> {
-    pub fn words(&mut self, n: usize) -> Option<&'a mut [u64]> {
+    pub(crate) fn words(&mut self, n: usize) -> Option<&'a mut [u64]>
+        ensures { IfSome result (λ area. length area.now ≡ n) }
+    {
         if n > self.words.len() {
             return None;
         }
@@ -17,7 +20,9 @@ impl<'a> Pool<'a> {
         Some(area)
     }
 
-    pub fn bytes(&mut self, n: usize) -> Option<&'a mut [u8]> {
+    pub(crate) fn bytes(&mut self, n: usize) -> Option<&'a mut [u8]>
+        ensures { IfSome result (λ area. length area.now ≡ n) }
+    {
         if n > self.bytes.len() {
             return None;
         }

@@ -16,7 +16,7 @@ use storage::write::{ByteSink, Quota, WriteBytes};
 
 // A table with the image that it is appended from.
 #[derive(Drop)]
-pub struct Session<'a, C: Scripted<'a>> {
+pub(crate) struct Session<'a, C: Scripted<'a>> {
     table: Stash<C, ByteArea<'a>, WordArea<'a>>,
     source: Option<Admitted<C, ByteArea<'a>>>,
 }
@@ -76,7 +76,7 @@ fn told(heap: Global, image: &[u8]) -> Result<String, AllocError> {
 
 impl<'a, C: Scripted<'a>> Session<'a, C> {
     // A fresh table in a ready column.
-    pub fn new(column: C) -> Session<'a, C> {
+    pub(crate) fn new(column: C) -> Session<'a, C> {
         Session {
             table: Stash::new(column),
             source: None,
@@ -84,7 +84,7 @@ impl<'a, C: Scripted<'a>> Session<'a, C> {
     }
 
     // The answer to a call; none where it is no call, or one that the pool has no area for.
-    pub fn call(
+    pub(crate) fn call(
         &mut self,
         heap: Global,
         pool: &mut Pool<'a>,

@@ -2,7 +2,7 @@
 use std::alloc::{AllocError, Global};
 
 #[derive(Drop)]
-pub struct Line<'a> {
+pub(crate) struct Line<'a> {
     fields: Vec<&'a str>,
 }
 
@@ -16,7 +16,7 @@ fn digit(c: u8) -> Option<u8> {
 }
 
 impl<'a> Line<'a> {
-    pub fn read(heap: Global, text: &'a str) -> Result<Line<'a>, AllocError> {
+    pub(crate) fn read(heap: Global, text: &'a str) -> Result<Line<'a>, AllocError> {
         let mut fields = Vec::new(heap);
         for field in text.split_whitespace() {
             fields.push(field)?;
@@ -28,16 +28,16 @@ impl<'a> Line<'a> {
         self.fields.get(k).copied().unwrap_or("")
     }
 
-    pub fn name(&self) -> &'a str {
+    pub(crate) fn name(&self) -> &'a str {
         self.field(0)
     }
 
-    pub fn number(&self, k: usize) -> Option<u64> {
+    pub(crate) fn number(&self, k: usize) -> Option<u64> {
         self.field(k).parse::<u64>().ok()
     }
 
     // A list of numbers with commas between; `-` is the empty one.
-    pub fn numbers(&self, heap: Global, k: usize) -> Result<Option<Vec<u64>>, AllocError> {
+    pub(crate) fn numbers(&self, heap: Global, k: usize) -> Result<Option<Vec<u64>>, AllocError> {
         let mut numbers = Vec::new(heap);
         if self.field(k) == "-" {
             return Ok(Some(numbers));
@@ -52,7 +52,7 @@ impl<'a> Line<'a> {
     }
 
     // Bytes in hexadecimal digits, two a byte; `-` is none.
-    pub fn bytes(&self, heap: Global, k: usize) -> Result<Option<Vec<u8>>, AllocError> {
+    pub(crate) fn bytes(&self, heap: Global, k: usize) -> Result<Option<Vec<u8>>, AllocError> {
         let mut bytes = Vec::new(heap);
         if self.field(k) == "-" {
             return Ok(Some(bytes));
