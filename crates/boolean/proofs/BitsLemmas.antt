@@ -15,11 +15,9 @@ use Rattle.area.specs.Fault.{refuse}
 use Rattle.area.specs.declared.fault.Fault.{Fault}
 use Rattle.area.specs.declared.fault.Refusal.TheVariants.{NotTaken, OutOfRange}
 use Rattle.boolean.specs.Bools.{bit, from_bits, to_bits, groups, rest, held_bits, bools_takes, given_bits, bits_taken, bits_pushed, push_bits_answer, range_bits}
-use Rattle.boolean.specs.BoolsLaws.{Stands, length-to_bits, to_bits-from_bits, from_bits-to_bits, from_bits_low, from_bits_lt, length-held, held_stands, length_rest, rest_more, rest-full, bits_more}
-use Rattle.boolean.specs.declared.bools.Bools.{Bools}
+use Rattle.boolean.specs.BoolsLaws.{Stands, few_elements, length-to_bits, to_bits-from_bits, from_bits-to_bits, from_bits_low, from_bits_lt, length-held, held_stands, length_rest, rest_more, rest-full, bits_more}
 use Rattle.column.specs.Column.{Areas, element, taken, pushed, push_answer}
 use Rattle.column.specs.Kind.{Held, L}
-use Rattle.column.specs.declared.kind.Index.{Ghosts as IndexMembers}
 use Rattle.column.proofs.ColumnLemmas.{element_at_lem, element_past}
 use Rattle.column.proofs.WordLemmas.{is_word}
 
@@ -134,8 +132,13 @@ pub record Kept (ws : List ℕ) (n w : ℕ) : Type 0 where
   pub clean : w < 2 ^ n
   pub short : 64 * length ws + n ≤ L
 
-pub kept : {C : Type 0} {v : IndexMembers C ℕ} {u : _} (c : Bools C v u) → Held is_word (v.list c.values) → Kept (v.list c.values) c.tail.count c.tail.word
-kept c words = record { words = words; few = c.few; clean = c.clean; short = c.short }
+-- m is how many of the words their column says that it holds
+pub kept : (ws : List ℕ) (n w : ℕ) {m : ℕ} → m ≡ length ws → Held is_word ws → n ≤ 63 → w < 2 ^ n → 64 * m + n ≤ L → Kept ws n w
+kept ws n w p words few clean short = record { words = words; few = few; clean = clean; short = few_elements ws n p short }
+
+-- and back: what holds of so many words holds of as many as the column says
+pub still_few : (ws : List ℕ) (n : ℕ) {m : ℕ} → m ≡ length ws → 64 * length ws + n ≤ L → 64 * m + n ≤ L
+still_few ws n p h = omega (arith, p, h)
 
 -- the word w of n bits with the bits of b above them
 abbrev pub filled : ℕ → ℕ → ℕ → ℕ

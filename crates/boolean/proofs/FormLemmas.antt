@@ -1,22 +1,31 @@
 -- A form of bools taken apart: the form of the words below, and the tail.
-use Rattle.std.proofs.Common.{◌≡◌, ℕ, zero, suc, ◌+◌, ◌*◌, ◌/◌, ◌%◌, ◌^◌, ◌-◌, ◌<◌, ◌≤◌, min, Bool, true, false, cond, ◌&&◌, eqb, leb, List, [], ◌∷◌, ◌++◌, map, length, take, Some, None, Ok, Err, Result, ok_or, sym, refl, ap, ◌∙◌, ap₂, add-one, arith}
+use Rattle.std.proofs.Common.{◌≡◌, ℕ, zero, suc, ◌+◌, ◌*◌, ◌/◌, ◌%◌, ◌^◌, ◌-◌, ◌<◌, ◌≤◌, min, Bool, true, false, cond, ◌&&◌, eqb, leb, ltb, List, [], ◌∷◌, ◌++◌, map, length, take, Some, None, Ok, Err, Result, ok_or, sym, refl, ap, ◌∙◌, ap₂, add-one, arith}
+use Rattle.std.specs.Coded.{Coded-set, coded_bool, coded_list, le_prop}
 use Rattle.std.specs.List.{AllByRecursion, flat_map}
+use Rattle.std.proofs.Math.Logic.{∥∥₁_elim}
+use Rattle.std.proofs.Props.{props}
 use Rattle.std.proofs.lemmas.Nat.{mod-pow-add, mod_below, pow_pos}
 use Rattle.std.proofs.lemmas.List.{length_push, take_at, get_or_at}
-use Rattle.std.proofs.lemmas.Bool.{le-leb, lt-leb}
+use Rattle.std.proofs.lemmas.Bool.{and_parts, le-leb, lt-leb, ltb-false, ltb-true}
+use Rattle.std.proofs.lemmas.Bool.Decides.{nat_tests}
 use Rattle.area.specs.Digits.{digits}
 use Rattle.area.specs.Fault.{refuse}
 use Rattle.area.specs.Slice.{Slice, of_words, words_for}
 use Rattle.area.specs.declared.fault.Fault.{Fault}
-use Rattle.area.specs.declared.fault.Refusal.TheVariants.{SliceContent}
+use Rattle.area.specs.declared.fault.Refusal.TheVariants.{OutOfRange, SliceContent}
 use Rattle.column.specs.Kind.{CAP, Format, L, first_refused, reading_within, least_words, slot, word_of}
+use Rattle.column.specs.Column.{element, side_of, slice_length, word_in_slice}
+use Rattle.column.specs.declared.kind.Side.TheVariants.{First, Second}
 use Rattle.column.specs.KindLemmas.{least_words_lem}
+use Rattle.column.proofs.RunLemmas.{one_length}
+use Rattle.column.proofs.SliceAt.{slice_length_past, word_in_slice_past}
+use Rattle.decode.proofs.DecodeLemmas.{length_span}
 use Rattle.decode.specs.Decode.{Inside, least_words_answer, slice_in, span_answer, structure_fault}
 use Rattle.decode.specs.declared.span.Span.{Span}
 use Rattle.read.specs.Form.{FormAnswer, Stands, There, list_of, size_answer, slices_within}
 use Rattle.read.proofs.FormLemmas.{size-passed, there_few}
 use Rattle.read.proofs.PlaceLemmas.{Made, Place, bounds_err, bounds_ok, made, place, slices_last, slices_left, words_asked}
-use Rattle.read.specs.FormLaws.{accepted}
+use Rattle.read.specs.FormLaws.{accepted, passed}
 use Rattle.read.proofs.StandLemmas.{stands}
 use Rattle.boolean.specs.Bools.{bools_format, bools_list, held_bits, to_bits}
 use Rattle.boolean.specs.BoolsLaws.{first_none, length-held, parts}
@@ -64,8 +73,72 @@ module _ {F : Type 0} (slices : F → List ℕ → List Slice) (kept : F → Lis
         giving = ap₂ (λ rs r. W.giving rs ++ of_words r.words ∷ []) front last;
       }
 
+  -- what is known of a view, whose form stands without a proof at hand
+  pub record Seen : Type 0 where
+    pub values : ∥ Stands slices kept W t.values ws ∥₁
+    pub few : t.tail.count ≤ 63
+    pub clean : t.tail.word < 2 ^ t.tail.count
+    pub short : 64 * length (list_of W (slices t.values ws)) + t.tail.count ≤ L
+    pub list : bools_list (list_of W (slices t.values ws)) t.tail ≡ list_of (bools_format W) (bools_slices slices t ws)
+    pub giving : (bools_format W).giving (bools_slices slices t ws) ≡ W.giving (slices t.values ws) ++ of_words (slice_in ws t.place).words ∷ []
+    pub inside : Inside ws t.place
+
+  pub seen : ∥ Stands (bools_slices slices) (BoolsKept kept) (bools_format W) t ws ∥₁ → Seen
+  seen h =
+      let ss = slices t.values ws in
+      let l = slice_in ws t.place in
+      let n : length ss ≡ W.slots = omega (arith, (passed h).count, length_push ss l) in
+      record {
+        values = ∥∥₁_elim h squash₁ (λ s. ∣ (below s).values ∣₁);
+        few = ∥∥₁_elim h le_prop (λ s. (below s).few);
+        clean = ∥∥₁_elim h le_prop (λ s. (below s).clean);
+        short = ∥∥₁_elim h le_prop (λ s. (below s).short);
+        list = ∥∥₁_elim h (Coded-set (coded_list coded_bool) _ _) (λ s. (below s).list);
+        giving = ap₂ (λ rs r. W.giving rs ++ of_words r.words ∷ []) (take_at ss (l ∷ []) W.slots n) (get_or_at ss l [] (record { words = []; bytes = 0 }) W.slots n);
+        inside = ∥∥₁_elim h (hlevel props) (λ s. s.keeps.inside);
+      }
+
   pub length_list : (b : Below) → length (list_of (bools_format W) (bools_slices slices t ws)) ≡ 64 * length (list_of W (slices t.values ws)) + t.tail.count
   length_list b = sym (ap length b.list) ∙ length-held (list_of W (slices t.values ws)) t.tail.count t.tail.word
+
+-- the tail's slice as it is given, whole
+module _ (ws : List ℕ) (s : Span) (i : Inside ws s) where
+  pub tail-length : slice_length (of_words (slice_in ws s).words ∷ []) 0 ≡ Ok (8 * words_for s.bytes)
+  tail-length = one_length (of_words (slice_in ws s).words) 0 (omega arith) (omega (arith, length_span ws s i, i.short)) ∙ ap (λ n. Ok (8 * n)) (length_span ws s i)
+
+  pub tail-word : (k : ℕ) → word_in_slice (of_words (slice_in ws s).words ∷ []) 0 k ≡ element (slice_in ws s).words k
+  tail-word k = ap (λ r. elim r [ Ok n ↦ element (slice_in ws s).words k | Err f ↦ Err f ]) tail-length
+
+side_none : (a b : Bool) (n k : ℕ) (e : Fault) → Err e ≡ cond a (Ok (First k)) (cond b (Ok (Second (k - n))) (Err (refuse OutOfRange 0))) → (a ≡ false) × (b ≡ false) × (e ≡ refuse OutOfRange 0)
+side_none true b n k e h = cc
+side_none false true n k e h = cc
+side_none false false n k e h = (refl, refl, cc)
+
+side_second : (a b : Bool) (n k j : ℕ) → Ok (Second j) ≡ cond a (Ok (First k)) (cond b (Ok (Second (k - n))) (Err (refuse OutOfRange 0))) → (b ≡ true) × (j ≡ k - n)
+side_second true b n k j h = cc
+side_second false true n k j h = (refl, cc)
+side_second false false n k j h = cc
+
+-- the slices of the words and then the tail's, where n of the words' are counted
+module _ (xs : List Slice) (s : Slice) (n k : ℕ) (n-is : n ≡ min (length xs) CAP) where
+  past : (e : Fault) → Err e ≡ side_of n 1 k → (e ≡ refuse OutOfRange 0) × (min (length (xs ++ s ∷ [])) CAP ≤ k)
+  past e h =
+      let p = side_none (ltb k n) (ltb k CAP && ltb (k - n) 1) n k e h in
+      (p.2, rw (length_push xs s) (beyond (ltb-false k n p.0) p.1))
+    where
+      beyond : n ≤ k → (ltb k CAP && ltb (k - n) 1) ≡ false → min (length xs + 1) CAP ≤ k
+      beyond a b = grind (arith, nat_tests, n-is)
+
+  pub length_none : (e : Fault) → Err e ≡ side_of n 1 k → Err e ≡ slice_length (xs ++ s ∷ []) k
+  length_none e h = let p = past e h in ap Err p.0 ∙ sym (slice_length_past (xs ++ s ∷ []) k p.1)
+
+  pub word_none : (i : ℕ) (e : Fault) → Err e ≡ side_of n 1 k → Err e ≡ word_in_slice (xs ++ s ∷ []) k i
+  word_none i e h = let p = past e h in ap Err p.0 ∙ sym (word_in_slice_past (xs ++ s ∷ []) k i p.1)
+
+pub tail_first : (n k j : ℕ) → Ok (Second j) ≡ side_of n 1 k → j ≡ 0
+tail_first n k j h =
+    let p = side_second (ltb k n) (ltb k CAP && ltb (k - n) 1) n k j h in
+    omega (arith, p.1, ltb-true (k - n) 1 (and_parts (ltb k CAP) (ltb (k - n) 1) p.0).1)
 
 -- what a stored word and count stand for
 stored_cases : (b : Bool) (r : Tail) (f : Fault) → ((t : Tail) → Ok t ≡ ok_or (cond b (Some r) None) f → (b ≡ true) × (t ≡ r)) × ((e : Fault) → Err e ≡ ok_or (cond b (Some r) None) f → (b ≡ false) × (e ≡ f))

@@ -15,6 +15,10 @@ use Rattle.boolean.specs.Bools.{bit, from_bits, to_bits, groups, rest, held_bits
 use Rattle.column.specs.KindLemmas.{least_words_lem, in_bounds, after-reads, slot-formed}
 use Rattle.column.proofs.WordLemmas.{is_word, all_words, list_all-words}
 
+-- a list of m words, where bits are counted by m
+pub few_elements : (ws : List ℕ) (n : ℕ) {m : ℕ} → m ≡ length ws → 64 * m + n ≤ L → 64 * length ws + n ≤ L
+few_elements ws n p h = omega (arith, p, h)
+
 -- bits as digits, and back
 bits_back : (bs : List Bool) → map (eqb 1) (map bit bs) ≡ bs
 bits_back [] = refl
@@ -254,6 +258,10 @@ module _ (W : Format ℕ) (laws : Laws is_word W) where
 module _ (ws : List ℕ) (n w : ℕ) where
   pub length-held : length (held_bits ws n w) ≡ 64 * length ws + n
   length-held = length-append (flat_map (to_bits 64) ws) (to_bits n w) ∙ ap₂ (λ x y. x + y) (length_bits ws) (length-to_bits n w)
+
+  -- m words hold as many elements as their list has
+  pub bools_counted : {m : ℕ} → m ≡ length ws → 64 * m + n ≡ length (held_bits ws n w)
+  bools_counted p = omega (arith, p, length-held)
 
   pub bools_held : 64 * length ws + n ≤ L → Held (λ (_ : Bool). true) (held_bits ws n w)
   bools_held short = (every_true (held_bits ws n w), omega (arith, length-held))

@@ -2,19 +2,19 @@
 ghost use Rattle.std.specs.Prelude.{◌≡◌, ◌+◌, ◌*◌, ◌^◌, ◌<◌, ◌≤◌, List, [], ◌∷◌, ◌++◌, length, slice_index_or};
 ghost use Rattle.column.specs.Kind.{L};
 ghost use Rattle.boolean.specs.Bools.{bools_list, tail_slice, bools_format, bools_takes, range_bits, given_bits, bits_pushed, push_bits_answer};
-ghost use Rattle.boolean.specs.BoolsLaws.{bools_formed, bools_held, bools_laws, bools_written};
+ghost use Rattle.boolean.specs.BoolsLaws.{bools_counted, bools_formed, bools_held, bools_laws, bools_written, few_elements};
 
 use crate::tail::Tail;
 use area::fault::{Fault, Refusal};
-use column::kind::{AsBytes, Column, Index, Kind, MAX_LEN, MAX_WORDS, Side};
+use column::kind::{AsBytes, Column, Index, Kind, Listed, MAX_LEN, MAX_WORDS, Side};
 
 #[derive(Drop)]
-pub struct Bools<C: Index<Item = u64>> {
+pub struct Bools<C: Kind> {
     pub(crate) values: C,
     pub(crate) tail: Tail,
     ghost few: { tail.count ≤ 63 },
     ghost clean: { tail.word < 2 ^ tail.count },
-    ghost short: { 64 * length (C.Index.list values) + tail.count ≤ L },
+    ghost short: { 64 * C.Kind.elements values + tail.count ≤ L },
 }
 
 // Whether the `count` lowest bits of `bits` are all that it has, and at most 64.
@@ -39,6 +39,8 @@ impl<C: Column<Elem = u64>> Bools<C> {
 
     // Puts the `count` lowest bits of `bits` at the end, the lowest first: all of them or none. 11 where `count` is
     // above 64 or a bit is set at or above it, 12 where one of them is not taken.
+    // Inlined, so that a push of one mark, which is most of them, asks no more than one mark needs.
+    #[inline(always)]
     pub fn push_bits(&mut self, bits: u64, count: usize) -> Result<(), Fault>
         ensures answer { result ≡ push_bits_answer (bools_takes C.Column.takes (C.Column.areas self.old.values)) (bools_list (C.Index.list self.old.values) self.old.tail) bits count }
         ensures after { bools_list (C.Index.list self.new.values) self.new.tail ≡ bits_pushed (bools_takes C.Column.takes (C.Column.areas self.old.values)) (bools_list (C.Index.list self.old.values) self.old.tail) bits count }
@@ -66,7 +68,7 @@ impl<C: Column<Elem = u64>> Bools<C> {
     }
 }
 
-impl<C: Index<Item = u64>> Bools<C> {
+impl<C: Listed<Elem = u64>> Bools<C> {
     // The group that element 64 × `block` begins, which is the tail past the full groups.
     fn word(&self, block: usize) -> u64
         ensures { result ≡ slice_index_or (C.Index.list self.now.values) block self.now.tail.word }
@@ -86,6 +88,9 @@ impl<C: Index<Item = u64>> Bools<C> {
         if pos > len || count > len - pos {
             return Err(Fault::at_start(Refusal::OutOfRange));
         }
+        if count == 0 {
+            return Ok(0);
+        }
         let block = pos / 64;
         let bit = pos % 64;
         let mut word = self.word(block) >> bit;
@@ -101,7 +106,7 @@ impl<C: Index<Item = u64>> Bools<C> {
     }
 }
 
-impl<C: Index<Item = u64>> Index for Bools<C> {
+impl<C: Listed<Elem = u64>> Index for Bools<C> {
     type Item = bool;
 
     ghost list = { λ c. bools_list (C.Index.list c.values) c.tail };
@@ -115,7 +120,7 @@ impl<C: Index<Item = u64>> Index for Bools<C> {
     }
 }
 
-impl<C: AsBytes + Index<Item = u64>> AsBytes for Bools<C> {
+impl<C: Listed<Elem = u64> + AsBytes> AsBytes for Bools<C> {
     ghost slices = { λ c. C.AsBytes.slices c.values ++ tail_slice c.tail.word c.tail.count ∷ [] };
 
     ghost formed = { λ c. bools_formed c.tail.count c.tail.word c.few c.clean (C.AsBytes.slices c.values) (C.AsBytes.formed c.values) };
@@ -142,10 +147,12 @@ impl<C: AsBytes + Index<Item = u64>> AsBytes for Bools<C> {
     }
 }
 
-impl<C: Kind<Elem = u64> + Index<Item = u64>> Kind for Bools<C> {
+impl<C: Kind<Elem = u64>> Kind for Bools<C> {
     type Elem = bool;
 
     ghost format = { bools_format C.Kind.format };
+
+    ghost elements = { λ c. 64 * C.Kind.elements c.values + c.tail.count };
 
     ghost laws = { bools_laws C.Kind.format C.Kind.laws };
 
@@ -154,12 +161,16 @@ impl<C: Kind<Elem = u64> + Index<Item = u64>> Kind for Bools<C> {
     }
 }
 
+impl<C: Listed<Elem = u64>> Listed for Bools<C> {
+    ghost counted = { λ c. bools_counted (C.Index.list c.values) c.tail.count c.tail.word (C.Listed.counted c.values) };
+}
+
 impl<C: Column<Elem = u64>> Column for Bools<C> {
     ghost areas = { λ c. C.Column.areas c.values };
 
     ghost takes = { bools_takes C.Column.takes };
 
-    ghost held = { λ c. bools_held (C.Index.list c.values) c.tail.count c.tail.word c.short };
+    ghost held = { λ c. bools_held (C.Index.list c.values) c.tail.count c.tail.word (few_elements (C.Index.list c.values) c.tail.count (C.Listed.counted c.values) c.short) };
 
     ghost written = { λ c. bools_written (C.Index.list c.values) c.tail.count c.tail.word (C.Column.held c.values) c.few C.Kind.format (C.AsBytes.slices c.values) (C.Column.written c.values) c.clean };
 

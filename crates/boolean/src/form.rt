@@ -7,7 +7,7 @@ ghost use Rattle.area.specs.declared.fault.Refusal.TheVariants.{SliceContent};
 ghost use Rattle.decode.specs.Decode.{Inside, slice_in};
 ghost use Rattle.boolean.specs.Bools.{bools_format, bools_list, range_bits};
 ghost use Rattle.read.specs.Form.{Stands, list_of};
-ghost use Rattle.boolean.specs.Form.{BoolsKept, BoolsKept-prop, bools_slices, slice_tail};
+ghost use Rattle.boolean.specs.Form.{BoolsKept, bools_slices, slice_tail};
 
 use crate::bools::Bools;
 use crate::tail::Tail;
@@ -39,7 +39,7 @@ fn tail_of<S: Store>(store: &S, place: Span, at: usize) -> Result<Tail, Fault>
 
 // The bools of a view, over the view of the words below; the slices that the whole view gives are those of the words
 // and then the tail's, in whole words.
-fn bools_in<'f, 's, C: FromBytes<Elem = u64> + Index<Item = u64>, S: Store>(
+fn bools_in<'f, 's, C: FromBytes<Elem = u64>, S: Store>(
     view: &View<'f, 's, Bools<C>, S>,
 ) -> Bools<View<'f, 's, C, S>>
     ensures list { bools_list (list_of C.Kind.format (C.ReadForm.slices result.values.form.now (S.Store.words result.values.store.now))) result.tail ≡ list_of (bools_format C.Kind.format) (bools_slices C.ReadForm.slices view.now.form.now (S.Store.words view.now.store.now)) }
@@ -59,7 +59,7 @@ fn bools_in<'f, 's, C: FromBytes<Elem = u64> + Index<Item = u64>, S: Store>(
 
 // `count` elements of a view from place `pos` on as a number, the first lowest. 11 where `count` is above 64, 10 where
 // the range passes the end.
-pub fn bits_at<C: FromBytes<Elem = u64> + Index<Item = u64>, S: Store>(
+pub fn bits_at<C: FromBytes<Elem = u64>, S: Store>(
     view: &View<'_, '_, Bools<C>, S>,
     pos: usize,
     count: usize,
@@ -69,17 +69,15 @@ pub fn bits_at<C: FromBytes<Elem = u64> + Index<Item = u64>, S: Store>(
     bools_in(view).bits_at(pos, count)
 }
 
-impl<C: ReadForm<Elem = u64> + Index<Item = u64>> ReadForm for Bools<C> {
+impl<C: ReadForm<Elem = u64>> ReadForm for Bools<C> {
     type Form = BoolsForm<C::Form>;
 
     ghost slices = { λ t ws. bools_slices C.ReadForm.slices t ws };
 
     ghost kept = { λ t ws. BoolsKept C.ReadForm.kept t ws };
-
-    ghost kept_prop = { λ t ws. BoolsKept-prop C.ReadForm.kept C.ReadForm.kept_prop t ws };
 }
 
-impl<C: FromBytes<Elem = u64> + Index<Item = u64>> FromBytes for Bools<C> {
+impl<C: FromBytes<Elem = u64>> FromBytes for Bools<C> {
     fn sized<S: Store>(image: &DecodedStore<S>, at: usize) -> Result<(), Fault> {
         C::sized(image, at)?;
         image.has_words(at.saturating_add(C::slice_count()), 2)

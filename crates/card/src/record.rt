@@ -1,7 +1,7 @@
 // Records: what the program `tables` reads, a kind byte and then a body of fixed length.
-ghost use Rattle.std.specs.Prelude.{◌≡◌, ◌+◌, ◌^◌, ◌<◌, length};
+ghost use Rattle.std.specs.Prelude.{◌≡◌, ◌+◌, ◌^◌, ◌<◌, length, drop};
 ghost use Rattle.std.specs.Iterator.{YieldsFirst, item_count};
-ghost use Rattle.card.specs.Records.{answers, push_of, record_of, records, size_of};
+ghost use Rattle.card.specs.Records.{answers, push_of, record_answer, record_of, records, size_of};
 
 use area::fault::{Fault, Refusal};
 use area::words::join;
@@ -40,6 +40,17 @@ fn first_record(bytes: &[u8]) -> Option<Record<Block>>
         [3, ..] => Some(Record::Image),
         _ => None,
     }
+}
+
+// The record that stands at place `at` of an input, as an answer: 17 carries which record of the input this is.
+pub fn read_record(input: &[u8], at: usize, count: usize) -> Result<Record<Block>, Fault>
+    ensures { result ≡ record_answer (record_of (drop at input.now)) count }
+{
+    let record = match input.get(at..) {
+        Some(bytes) => first_record(bytes),
+        None => None,
+    };
+    record.ok_or(Fault::at(Refusal::UnknownRecord, count))
 }
 
 // The push that a body begins with: eight bytes of end, the bad byte and the wear byte.

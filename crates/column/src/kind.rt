@@ -91,6 +91,9 @@ pub trait Kind {
 
     ghost format: { Format Self.Elem };
 
+    // How many elements a value of the type holds. A type that only names a kind has no values that hold any, and leaves it.
+    ghost elements: { Self → ℕ } = { λ _. 0 };
+
     // The number of slices, or 536,870,911 where there are more: no image has so many.
     fn slice_count() -> usize
         ensures { result ≡ min format.slots CAP };
@@ -98,9 +101,14 @@ pub trait Kind {
     ghost laws: { Laws Self.Elem.Value.fits format };
 }
 
+// A list of a kind: a value holds just the elements of its list.
+pub trait Listed: Kind + Index<Item = Self::Elem> {
+    ghost counted: { (c : Self) → Self.Kind.elements c ≡ length (Self.Index.list c) };
+}
+
 // A list of a kind in lent memory. Its slices are the kind's writing of its list; what it takes next is fixed by
 // its list and the size of its areas, which no call changes.
-pub trait Column: Kind + AsBytes + Index<Item = Self::Elem> {
+pub trait Column: Listed + AsBytes {
     ghost areas: { Self → Areas };
 
     ghost takes: { Areas → List Self.Elem → Self.Elem → Bool };

@@ -8,7 +8,7 @@ ghost use Rattle.column.specs.Run.{run_format, run_takes};
 ghost use Rattle.column.specs.RunLaws.{run_formed, run_held, run_laws};
 
 use crate::element::{Element, Value};
-use crate::kind::{AsBytes, Column, Index, Kind, MAX_LEN, MAX_WORDS};
+use crate::kind::{AsBytes, Column, Index, Kind, Listed, MAX_LEN, MAX_WORDS};
 use area::fault::{Fault, Refusal};
 
 // The list is the first `len` cells of an area that is lent: the firmware has no heap.
@@ -110,11 +110,17 @@ impl<'a, T: Element> Kind for Run<'a, T> {
 
     ghost format = { run_format T.Element.codec };
 
+    ghost elements = { λ c. length (take c.len c.cells.now) };
+
     ghost laws = { run_laws T.Value.fits T.Element.codec T.Element.one_to_one };
 
     fn slice_count() -> usize {
         1
     }
+}
+
+impl<'a, T: Element> Listed for Run<'a, T> {
+    ghost counted = { λ _. refl };
 }
 
 impl<'a, T: Element> Column for Run<'a, T> {

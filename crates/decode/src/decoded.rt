@@ -1,5 +1,5 @@
 // A store whose index was looked at, so that its slices can be found.
-ghost use Rattle.std.specs.Prelude.{◌≡◌, suc, ◌*◌, ◌<◌, ◌≤◌, length, take, drop, Some, None};
+ghost use Rattle.std.specs.Prelude.{◌≡◌, suc, ◌*◌, ◌<◌, ◌≤◌, length, take, drop, Some, None, ⊤};
 ghost use Rattle.column.specs.Kind.{CAP, slot};
 ghost use Rattle.decode.specs.Decode.{Inside, ends_fault, index_answer, or_fault, slice_in, slices_of, least_words_answer, span_answer, span_of, structure_fault};
 
@@ -22,6 +22,10 @@ pub struct DecodedStore<S: Store> {
 impl<S: Store + Copy> Copy for DecodedStore<S> {}
 
 impl<S: Store + Copy> Clone for DecodedStore<S> {
+    ghost is_clone = { λ d e. e ≡ d };
+
+    ghost is_infallible = { λ _. ⊤ };
+
     fn clone(&self) -> Result<Self, AllocError> {
         Ok(*self)
     }

@@ -91,12 +91,16 @@ ends_next e [] k l = absurd (omega arith)
 ends_next e (s ∷ ss) zero l = refl
 ends_next e (s ∷ ss) (suc k) l = ends_next (round_up e + s.bytes) ss k (omega arith)
 
-ends_below : (ss : List Slice) (q k : ℕ) → AllByRecursion WellFormed ss → k < length ss → get_or (ends (8 * q) ss) k 0 ≤ 8 * (q + weight ss)
-ends_below [] q k w l = absurd (omega arith)
-ends_below (s ∷ ss) q zero w l = omega (arith, w.0.1)
-ends_below (s ∷ ss) q (suc k) w l =
+-- where a slice ends, if the first starts at word q
+pub get_or-ends : (ss : List Slice) (q k : ℕ) → AllByRecursion WellFormed ss → k < length ss → get_or (ends (8 * q) ss) k 0 ≡ 8 * (q + weight (take k ss)) + (slot ss k).bytes
+get_or-ends [] q k w l = absurd (omega arith)
+get_or-ends (s ∷ ss) q zero w l = omega arith
+get_or-ends (s ∷ ss) q (suc k) w l =
     let e : words_for (8 * q + s.bytes) ≡ q + length s.words = omega (arith, w.0.1) in
-    rw e (omega (arith, ends_below ss (q + length s.words) k w.1 (omega arith)))
+    rw e (get_or-ends ss (q + length s.words) k w.1 (omega arith) ∙ omega arith)
+
+ends_below : (ss : List Slice) (q k : ℕ) → AllByRecursion WellFormed ss → k < length ss → get_or (ends (8 * q) ss) k 0 ≤ 8 * (q + weight ss)
+ends_below ss q k w l = omega (arith, get_or-ends ss q k w l, length-slot ss k w l, weight_more ss k l, weight-take ss (k + 1))
 
 -- the same of the index
 pub index_next : (ss : List Slice) (k n e : ℕ) → Ok n ≡ slice_length ss k → e ≡ slice_index (index ss) k → next_multiple_of e 8 + n ≡ slice_index (index ss) (k + 1)

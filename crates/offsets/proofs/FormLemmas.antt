@@ -4,6 +4,7 @@ use Rattle.std.specs.List.{AllByRecursion}
 use Rattle.std.specs.Option.{SomeIff}
 use Rattle.std.proofs.lemmas.Bool.{ltb-true, and_from, and_left, and_right, le-leb, le-ltb, lt-leb, lt-ltb, true≢false}
 use Rattle.area.specs.Fault.{refuse}
+use Rattle.std.proofs.Props.{props}
 use Rattle.area.specs.Slice.{Slice, of_words}
 use Rattle.area.specs.declared.fault.Fault.{Fault}
 use Rattle.area.specs.declared.fault.Refusal.TheVariants.{SliceContent}
@@ -18,7 +19,7 @@ use Rattle.decode.specs.declared.span.Span.{Span}
 use Rattle.read.specs.Form.{FormAnswer, Stands, There, list_of, size_answer, slices_within}
 use Rattle.read.proofs.FormLemmas.{accepted_list, first_slot, size-passed, there_count}
 use Rattle.read.proofs.PlaceLemmas.{Made, Place, bounds_err, bounds_ok, form_err, made, no_word, place, size_err, size_right, slices_right, word_there, words_asked}
-use Rattle.read.specs.FormLaws.{accepted}
+use Rattle.read.specs.FormLaws.{accepted, stood}
 use Rattle.read.proofs.StandLemmas.{stands}
 use Rattle.offsets.specs.Form.{StridesKept, strides_slices}
 use Rattle.offsets.specs.Head.{strides_list}
@@ -32,6 +33,10 @@ run_slices s ws = slice_in ws s ∷ []
 
 abbrev pub run_kept : Span → List ℕ → Type 0
 run_kept s ws = Inside ws s
+
+-- strides keep to facts that have one proof at most, so that a view's form is known to stand
+pub strides_stood : {t : StridesForm} {ws : List ℕ} → ∥ Stands strides_slices StridesKept (strides_format word_run) t ws ∥₁ → Stands strides_slices StridesKept (strides_format word_run) t ws
+strides_stood h = stood (λ t vs. hlevel props) h
 
 -- a form that stands for its list: a head, and bounds whose form stands for theirs
 module _ (t : StridesForm) (ws : List ℕ) (h : Stands strides_slices StridesKept (strides_format word_run) t ws) where

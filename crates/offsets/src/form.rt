@@ -31,8 +31,6 @@ impl<'a> ReadForm for Strides<'a> {
     ghost slices = { λ t ws. strides_slices t ws };
 
     ghost kept = { λ t ws. StridesKept t ws };
-
-    ghost kept_prop = { λ t ws. Prim.hlevel props };
 }
 
 // The bounds, as a view of a run.

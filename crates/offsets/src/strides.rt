@@ -10,7 +10,7 @@ ghost use Rattle.offsets.specs.StridesLaws.{strides_formed, strides_held, word_s
 use crate::bounds::bounds;
 use crate::head::Head;
 use area::fault::{Fault, Refusal};
-use column::kind::{AsBytes, Column, Index, Kind, MAX_LEN};
+use column::kind::{AsBytes, Column, Index, Kind, Listed, MAX_LEN};
 use column::run::Run;
 
 // The head and the bounds are its list's own.
@@ -118,6 +118,8 @@ impl<'a> Kind for Strides<'a> {
 
     ghost format = { strides_format word_run };
 
+    ghost elements = { λ c. length (strides_list c.head.stride c.head.length (take c.bounds.len c.bounds.cells.now)) };
+
     ghost laws = { word_strides_laws };
 
     // Written out, as the check asks of an `impl` with a lifetime alone where no argument shows the type.
@@ -127,6 +129,10 @@ impl<'a> Kind for Strides<'a> {
         // the head, and the run of bounds
         1 + 1
     }
+}
+
+impl<'a> Listed for Strides<'a> {
+    ghost counted = { λ _. refl };
 }
 
 impl<'a> Column for Strides<'a> {

@@ -11,9 +11,9 @@ use Rattle.column.specs.Kind.{CAP, Format, Reading, reads, refuses}
 use Rattle.decode.specs.Decode.{ask, ends_fault, first, index_answer, index_fault, slice_ends, slices_of, structure_fault}
 use Rattle.decode.proofs.DecodeLemmas.{asked-passed, asked_uncounted, count_slices, index_counted, index_refused}
 use Rattle.read.specs.Admission.{admission, content_answer, read_answer}
-use Rattle.read.specs.Form.{FormAnswer, Stands, There, list_of, size_answer, slices_within}
+use Rattle.read.specs.Form.{FormAnswer, Passed, Stands, There, list_of, size_answer, slices_within}
 use Rattle.read.proofs.PlaceLemmas.{made}
-use Rattle.read.specs.FormLaws.{accepted}
+use Rattle.read.specs.FormLaws.{passed-accepted}
 
 -- an index that passes questions 1 to 4 has fewer than CAP slices, and of any other no count is asked
 module _ (ws : List ℕ) (n m : ℕ) (p : n ≡ min m CAP) where
@@ -75,7 +75,7 @@ module _ {E : Type 0} (F : Format E) (ws : List ℕ) (n : ℕ) (p : n ≡ min F.
     form_admitted t whole a = let m = made ws uncounted whole slices kept F 0 there_all z t a in (m.stands, m.of ∙ slices_all)
 
 -- what the type of an admitted image says: its words are admitted with the list of its form
-pub admitted_list : {E Form : Type 0} {slices : Form → List ℕ → List Slice} {kept : Form → List ℕ → Type 0} {F : Format E} {t : Form} {ws : List ℕ} → Stands slices kept F t ws → slices t ws ≡ slices_of ws → structure_fault (Some F.slots) ws ≡ None → admission F ws ≡ Ok (list_of F (slices t ws))
-admitted_list {E} {Form} {slices} {kept} {F} {t} {ws} h e a =
-    let b = accepted h in
-    ap (after_structure (read_answer F (slices_of ws))) a ∙ ap (read_answer F) (sym e) ∙ ap (after_size (F.reading (slices t ws))) b.fitting ∙ ap content_answer b.reading
+pub admitted_list : {E : Type 0} {F : Format E} {ss : List Slice} (ws : List ℕ) → Passed F ss → ss ≡ slices_of ws → structure_fault (Some F.slots) ws ≡ None → admission F ws ≡ Ok (list_of F ss)
+admitted_list {F} {ss} ws h e a =
+    let b = passed-accepted h in
+    ap (after_structure (read_answer F (slices_of ws))) a ∙ ap (read_answer F) (sym e) ∙ ap (after_size (F.reading ss)) b.fitting ∙ ap content_answer b.reading

@@ -3,6 +3,7 @@ use Rattle.std.proofs.Common.{◌≡◌, ℕ, suc, ◌+◌, ◌-◌, ◌*◌, �
 use native.Mathlib.Nat.{mul-div-le}
 use lib.Seq.{take-append-le}
 use Rattle.std.specs.List.{AllByRecursion}
+use Rattle.std.proofs.Props.{props}
 use Rattle.std.proofs.ByRecursion.{All-get_or}
 use Rattle.std.proofs.lemmas.List.{drop-take, get_or-map}
 use Rattle.std.proofs.lemmas.Option.{slice_get-get_or}
@@ -17,7 +18,7 @@ use Rattle.std.specs.List.{slice_get}
 use Rattle.storage.proofs.StoreLemmas.{slice_get_found}
 use Rattle.column.specs.Column.{element, slice_length, word_in_slice}
 use Rattle.column.specs.Element.{Codec, OneToOne, unsigned}
-use Rattle.column.specs.Kind.{CAP, L}
+use Rattle.column.specs.Kind.{CAP, Format, L}
 use Rattle.column.specs.Run.{elements, run_format}
 use Rattle.column.proofs.ColumnLemmas.{element_at_lem, element_found, element_past}
 use Rattle.column.specs.KindLemmas.{in_bounds}
@@ -27,7 +28,11 @@ use Rattle.decode.specs.Decode.{Inside, slice_in}
 use Rattle.decode.specs.declared.span.Span.{Span}
 use Rattle.decode.proofs.PartLemmas.{spill-drop, spill-take}
 use Rattle.read.specs.Form.{Stands, element_at, list_of}
-use Rattle.read.specs.FormLaws.{accepted}
+use Rattle.read.specs.FormLaws.{accepted, stood}
+
+-- a run keeps to one fact, its place, so that a view's form is known to stand
+pub run_stood : {E : Type 0} {F : Format E} {s : Span} {ws : List ℕ} → ∥ Stands (λ t vs. slice_in vs t ∷ []) (λ t vs. Inside vs t) F s ws ∥₁ → Stands (λ t vs. slice_in vs t ∷ []) (λ t vs. Inside vs t) F s ws
+run_stood h = stood (λ t vs. hlevel props) h
 
 -- the first k bytes of word i
 pub spill_at : (ws : List ℕ) (i k : ℕ) → i < length ws → k ≤ 8 → take k (drop (8 * i) (spill ws)) ≡ digits 256 k (get_or ws i 0)

@@ -43,6 +43,9 @@ pub record Passed {E : Type 0} (F : Format E) (ss : List Slice) : Type 0 where
   pub fitting : F.sized ss ≡ None
   pub read : is_read (F.reading ss) ≡ true
 
+pub Passed-prop : {E : Type 0} (F : Format E) (ss : List Slice) → IsProp (Passed F ss)
+Passed-prop F ss = hlevel props
+
 -- forms that stand for slices of words, and keep to something over these words
 module _ {E Form : Type 0} (slices : Form → List ℕ → List Slice) (kept : Form → List ℕ → Type 0) where
   -- a form of accepted slices

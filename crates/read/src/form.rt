@@ -20,9 +20,6 @@ pub trait ReadForm: Kind {
 
     // What a form keeps to over these words: its places lie inside them, and the numbers that it has read are theirs.
     ghost kept: { Self.Form → List ℕ → Type 0 };
-
-    // Any two proofs of it are equal, so that a view has it in its type.
-    ghost kept_prop: { (t : Self.Form) (ws : List ℕ) → IsProp (kept t ws) };
 }
 
 // A kind with its read form. `There` stays a premise: a type for slices that are there, which every part that a kind asks would

@@ -27,8 +27,6 @@ impl<'a, T: Stored> ReadForm for Run<'a, T> {
     ghost slices = { λ s ws. slice_in ws s ∷ [] };
 
     ghost kept = { λ s ws. Inside ws s };
-
-    ghost kept_prop = { λ s ws. Prim.hlevel props };
 }
 
 impl<'a, T: Stored> FromBytes for Run<'a, T> {

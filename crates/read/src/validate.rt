@@ -2,7 +2,7 @@
 ghost use Rattle.std.specs.Prelude.{◌≡◌, Some, None};
 ghost use Rattle.decode.specs.Decode.{slices_of, structure_fault};
 ghost use Rattle.read.specs.Admission.{Admits};
-ghost use Rattle.read.specs.Form.{Stands, Stands-prop, list_of};
+ghost use Rattle.read.specs.Form.{Passed, Passed-prop, Stands, list_of};
 
 use crate::form::{FromBytes, ReadForm};
 use crate::view::View;
@@ -18,7 +18,8 @@ pub struct Admitted<K: ReadForm, S: Store> {
     pub form: K::Form,
     pub store: S,
     pub of: PhantomData<K>,
-    pub ghost stands: { Stands K.ReadForm.slices K.ReadForm.kept K.Kind.format form (S.Store.words store) } by { Stands-prop K.ReadForm.slices K.ReadForm.kept K.ReadForm.kept_prop K.Kind.format form (S.Store.words store) },
+    pub ghost passed: { Passed K.Kind.format (K.ReadForm.slices form (S.Store.words store)) } by { Passed-prop K.Kind.format (K.ReadForm.slices form (S.Store.words store)) },
+    pub ghost stands: { ∥ Stands K.ReadForm.slices K.ReadForm.kept K.Kind.format form (S.Store.words store) ∥₁ },
     pub ghost whole: { K.ReadForm.slices form (S.Store.words store) ≡ slices_of (S.Store.words store) },
     pub ghost asked: { structure_fault (Some K.Kind.format.slots) (S.Store.words store) ≡ None },
 }

@@ -1,27 +1,32 @@
 // A read form with the store that it is lent: a list, and slices that read as it.
-ghost use Rattle.std.specs.Prelude.{◌≡◌};
-ghost use Rattle.read.specs.Form.{Stands, Stands-prop, list_of};
+ghost use Rattle.std.specs.Prelude.{◌≡◌, length, refl, ⊤};
+ghost use Rattle.read.specs.Form.{Passed, Passed-prop, Stands, list_of};
 ghost use Rattle.read.specs.FormLaws.{given_formed};
 
 use crate::form::{FromBytes, ReadForm};
 use area::fault::Fault;
-use column::kind::{AsBytes, Index, Kind};
+use column::kind::{AsBytes, Index, Kind, Listed};
 use std::alloc::AllocError;
 use std::marker::PhantomData;
 use storage::store::Store;
 
-// The form and the store that it reads. The borrow checker wants the lifetimes of `K` in the type of a field: `of` names them.
+// The form and the store that it reads. That the form stands is kept truncated, since what a kind keeps to may have more than one proof. The borrow checker wants the lifetimes of `K` in the type of a field: `of` names them.
 pub struct View<'f, 's, K: ReadForm, S: Store> {
     pub form: &'f K::Form,
     pub store: &'s S,
     pub of: PhantomData<K>,
-    pub ghost stands: { Stands K.ReadForm.slices K.ReadForm.kept K.Kind.format form.now (S.Store.words store.now) } by { Stands-prop K.ReadForm.slices K.ReadForm.kept K.ReadForm.kept_prop K.Kind.format form.now (S.Store.words store.now) },
+    pub ghost passed: { Passed K.Kind.format (K.ReadForm.slices form.now (S.Store.words store.now)) } by { Passed-prop K.Kind.format (K.ReadForm.slices form.now (S.Store.words store.now)) },
+    pub ghost stands: { ∥ Stands K.ReadForm.slices K.ReadForm.kept K.Kind.format form.now (S.Store.words store.now) ∥₁ },
 }
 
 // Two references, which are copied as they are; by hand, since a `Clone` is not derived where a struct with type parameters has a ghost field.
 impl<'f, 's, K: ReadForm, S: Store> Copy for View<'f, 's, K, S> {}
 
 impl<'f, 's, K: ReadForm, S: Store> Clone for View<'f, 's, K, S> {
+    ghost is_clone = { λ v w. w ≡ v };
+
+    ghost is_infallible = { λ _. ⊤ };
+
     fn clone(&self) -> Result<Self, AllocError> {
         Ok(*self)
     }
@@ -44,7 +49,7 @@ impl<'f, 's, K: FromBytes, S: Store> Index for View<'f, 's, K, S> {
 impl<'f, 's, K: FromBytes, S: Store> AsBytes for View<'f, 's, K, S> {
     ghost slices = { λ v. K.Kind.format.giving (K.ReadForm.slices v.form.now (S.Store.words v.store.now)) };
 
-    ghost formed = { λ v. given_formed K.Kind.laws v.stands };
+    ghost formed = { λ v. given_formed K.Kind.laws v.passed };
 
     fn slices(&self) -> usize {
         K::slice_count()
@@ -57,4 +62,23 @@ impl<'f, 's, K: FromBytes, S: Store> AsBytes for View<'f, 's, K, S> {
     fn slice_word(&self, k: usize, i: usize) -> Result<u64, Fault> {
         K::view_slice_word(self, k, i)
     }
+}
+
+// A view is a list of the kind that it reads.
+impl<'f, 's, K: FromBytes, S: Store> Kind for View<'f, 's, K, S> {
+    type Elem = K::Elem;
+
+    ghost format = { K.Kind.format };
+
+    ghost elements = { λ v. length (list_of K.Kind.format (K.ReadForm.slices v.form.now (S.Store.words v.store.now))) };
+
+    ghost laws = { K.Kind.laws };
+
+    fn slice_count() -> usize {
+        <K as Kind>::slice_count()
+    }
+}
+
+impl<'f, 's, K: FromBytes, S: Store> Listed for View<'f, 's, K, S> {
+    ghost counted = { λ _. refl };
 }

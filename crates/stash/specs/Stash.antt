@@ -15,7 +15,7 @@ use Rattle.stash.specs.declared.stash.State.TheVariants as state
 
 -- the members of a column, with those of its kind, as a clause has them in `C.Column`
 abbrev pub ColumnMembers : Type 0 → Type 0 → Type 0
-ColumnMembers C E = record { list : C → List E; slices : C → List Slice; format : Format E; areas : C → Areas; takes : Areas → List E → E → Bool }
+ColumnMembers C E = record { slices : C → List Slice; list : C → List E; format : Format E; elements : C → ℕ; areas : C → Areas; takes : Areas → List E → E → Bool }
 
 -- over columns by their members
 module _ {C E : Type 0} (column : ColumnMembers C E) where

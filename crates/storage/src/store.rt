@@ -119,9 +119,22 @@ pub struct Window<S: Store> {
 // By hand, since a `Clone` is not derived where a struct with type parameters has a ghost field.
 impl<S: Store + Copy> Copy for Window<S> {}
 
-impl<S: Store + Copy> Clone for Window<S> {
+// The same window of the store's clone; refused where that has too few words, as no clone with the store's words has.
+impl<S: Store + Clone> Clone for Window<S> {
+    ghost is_clone = { λ w v. S.Clone.is_clone w.store v.store × ((v.from ≡ w.from) × (v.size ≡ w.size)) };
+
+    ghost is_infallible = { λ w. S.Clone.is_infallible w.store × ((t : S) → S.Clone.is_clone w.store t → S.Store.words t ≡ S.Store.words w.store) };
+
     fn clone(&self) -> Result<Self, AllocError> {
-        Ok(*self)
+        let store = self.store.clone()?;
+        if self.from + self.size > store.count() {
+            return Err(AllocError);
+        }
+        Ok(Window {
+            store,
+            from: self.from,
+            size: self.size,
+        })
     }
 }
 

@@ -1,5 +1,5 @@
 -- The laws of pairs, from those of the two sides.
-use Rattle.std.proofs.Common.{◌≡◌, ◌+◌, ◌≤◌, Bool, ◌&&◌, eqb, List, [], ◌∷◌, ◌++◌, length, take, drop, zip, None, sym, refl, ap, ◌∙◌, ap₂, arith, length-append, length-drop, take-append-drop, length-take-le, take_at, drop_at}
+use Rattle.std.proofs.Common.{◌≡◌, ℕ, ◌+◌, ◌≤◌, Bool, ◌&&◌, eqb, List, [], ◌∷◌, ◌++◌, length, take, drop, zip, None, sym, refl, ap, ◌∙◌, ap₂, arith, length-append, length-drop, take-append-drop, length-take-le, take_at, drop_at}
 use lib.ListN.{length-map}
 use Rattle.std.specs.List.{AllByRecursion, list_all}
 use Rattle.std.proofs.ByRecursion.{All-append, All-take, All-drop}
@@ -113,6 +113,16 @@ module _ {A B : Type 0} {f : A → Bool} {g : B → Bool} {F : Format A} {G : Fo
 
   pub pair_laws : Laws (λ p. f p.0 && g p.1) (pair_format F G)
   pair_laws = record { shape = shape; return = return; sound = sound; least = least; given = given }
+
+-- two lists are as long as one another where so many elements are held on either side
+pub same_length : {A B : Type 0} (ls : List A) (rs : List B) {m n : ℕ} → m ≡ length ls → n ≡ length rs → m ≡ n → length ls ≡ length rs
+same_length ls rs p q e = sym p ∙ e ∙ q
+
+pub still_level : {A B : Type 0} (ls : List A) (rs : List B) {m n : ℕ} → m ≡ length ls → n ≡ length rs → length ls ≡ length rs → m ≡ n
+still_level ls rs p q e = p ∙ e ∙ sym q
+
+pub pair_counted : {A B : Type 0} (ls : List A) (rs : List B) {m n : ℕ} → m ≡ length ls → n ≡ length rs → m ≡ n → m ≡ length (zip ls rs)
+pair_counted ls rs p q e = rw length-zip (omega (arith, p, q, e))
 
 -- two columns of one length, side by side
 module _ {A B : Type 0} (ls : List A) (rs : List B) (level : length ls ≡ length rs) where

@@ -1,11 +1,11 @@
 // Empties: elements that hold nothing, as their count.
-ghost use Rattle.std.specs.Prelude.{◌≡◌, ℕ, refl};
+ghost use Rattle.std.specs.Prelude.{◌≡◌, ℕ, length, refl};
 ghost use Rattle.column.specs.Column.{none as no_area};
 ghost use Rattle.tuple.specs.Empties.{empties_format, empties_list, empties_takes};
 ghost use Rattle.tuple.specs.EmptiesLaws.{empties_formed, empties_held, empties_laws};
 
 use area::fault::{Fault, Refusal};
-use column::kind::{AsBytes, Column, Index, Kind};
+use column::kind::{AsBytes, Column, Index, Kind, Listed};
 
 // No list has more elements than a `u32` counts. A ghost field for the limit would keep empties out of nested pairs:
 // the checker does not cover a type argument that "holds a `&mut` and a struct that has a ghost field".
@@ -68,11 +68,17 @@ impl Kind for Empties {
 
     ghost format = { empties_format };
 
+    ghost elements = { λ c. length (empties_list c.count) };
+
     ghost laws = { empties_laws };
 
     fn slice_count() -> usize {
         1
     }
+}
+
+impl Listed for Empties {
+    ghost counted = { λ _. refl };
 }
 
 impl Column for Empties {

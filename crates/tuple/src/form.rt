@@ -1,12 +1,12 @@
 // The read forms of empties and of pairs.
-ghost use Rattle.std.specs.Prelude.{◌≡◌, ℕ, List, [], ◌∷◌, ◌++◌, zip};
+ghost use Rattle.std.specs.Prelude.{◌≡◌, ℕ, List, [], ◌∷◌, ◌++◌, length, zip};
 ghost use Rattle.decode.specs.Decode.{slice_in};
 ghost use Rattle.read.specs.Form.{list_of};
 ghost use Rattle.tuple.specs.Form.{EmptiesKept, PairKept, pair_slices};
 ghost use Rattle.tuple.specs.Pair.{pair_format};
 
 use crate::empties::Empties;
-use crate::pair::Pair;
+use crate::pair::{Pair, both, joint_len, joint_word};
 use area::fault::{Fault, Refusal};
 use column::kind::{AsBytes, Index, Kind};
 use decode::decoded::DecodedStore;
@@ -24,15 +24,11 @@ pub struct EmptiesForm {
 }
 
 impl ReadForm for Empties {
-    ghost use Rattle.std.proofs.Props.{props};
-
     type Form = EmptiesForm;
 
     ghost slices = { λ t ws. slice_in ws t.place ∷ [] };
 
     ghost kept = { λ t ws. EmptiesKept t ws };
-
-    ghost kept_prop = { λ t ws. Prim.hlevel props };
 }
 
 impl FromBytes for Empties {
@@ -80,24 +76,21 @@ pub struct PairForm<F, G> {
     second: G,
 }
 
-impl<A: ReadForm + Index, B: ReadForm + Index> ReadForm for Pair<A, B> {
-    ghost use Rattle.std.proofs.Props.{props};
-
+impl<A: ReadForm, B: ReadForm> ReadForm for Pair<A, B> {
     type Form = PairForm<A::Form, B::Form>;
 
     ghost slices = { λ t ws. pair_slices A.ReadForm.own B.ReadForm.own t ws };
 
     ghost kept = { λ t ws. PairKept A.ReadForm.own B.ReadForm.own A.Kind.format.slots t ws };
-
-    ghost kept_prop = { λ t ws. Prim.hlevel (props, A.ReadForm.kept_prop, B.ReadForm.kept_prop) };
 }
 
-// The views of the two sides, side by side.
-fn sides<'f, 's, A: FromBytes + Index, B: FromBytes + Index, S: Store>(
+// The views of the two sides.
+fn sides<'f, 's, A: FromBytes, B: FromBytes, S: Store>(
     view: View<'f, 's, Pair<A, B>, S>,
-) -> Pair<View<'f, 's, A, S>, View<'f, 's, B, S>>
-    ensures list { zip (⟦<View<'f, 's, A, S> as Index>⟧.list result.first) (⟦<View<'f, 's, B, S> as Index>⟧.list result.second) ≡ list_of (pair_format A.Kind.format B.Kind.format) (pair_slices A.ReadForm.own B.ReadForm.own view.entry.form.now (S.Store.words view.entry.store.now)) }
-    ensures slices { ⟦<View<'f, 's, A, S> as AsBytes>⟧.slices result.first ++ ⟦<View<'f, 's, B, S> as AsBytes>⟧.slices result.second ≡ (pair_format A.Kind.format B.Kind.format).giving (pair_slices A.ReadForm.own B.ReadForm.own view.entry.form.now (S.Store.words view.entry.store.now)) }
+) -> (View<'f, 's, A, S>, View<'f, 's, B, S>)
+    ensures level { length (⟦<View<'f, 's, A, S> as Index>⟧.list result.0) ≡ length (⟦<View<'f, 's, B, S> as Index>⟧.list result.1) }
+    ensures list { zip (⟦<View<'f, 's, A, S> as Index>⟧.list result.0) (⟦<View<'f, 's, B, S> as Index>⟧.list result.1) ≡ list_of (pair_format A.Kind.format B.Kind.format) (pair_slices A.ReadForm.own B.ReadForm.own view.entry.form.now (S.Store.words view.entry.store.now)) }
+    ensures slices { ⟦<View<'f, 's, A, S> as AsBytes>⟧.slices result.0 ++ ⟦<View<'f, 's, B, S> as AsBytes>⟧.slices result.1 ≡ (pair_format A.Kind.format B.Kind.format).giving (pair_slices A.ReadForm.own B.ReadForm.own view.entry.form.now (S.Store.words view.entry.store.now)) }
 {
     let first = View {
         form: &view.form.first,
@@ -109,10 +102,10 @@ fn sides<'f, 's, A: FromBytes + Index, B: FromBytes + Index, S: Store>(
         store: view.store,
         of: PhantomData,
     };
-    Pair { first, second }
+    (first, second)
 }
 
-impl<A: FromBytes + Index, B: FromBytes + Index> FromBytes for Pair<A, B> {
+impl<A: FromBytes, B: FromBytes> FromBytes for Pair<A, B> {
     fn sized<S: Store>(image: &DecodedStore<S>, at: usize) -> Result<(), Fault> {
         A::sized(image, at)?;
         B::sized(image, at.saturating_add(A::slice_count()))
@@ -138,14 +131,16 @@ impl<A: FromBytes + Index, B: FromBytes + Index> FromBytes for Pair<A, B> {
         view: &View<'_, '_, Pair<A, B>, S>,
         i: usize,
     ) -> Result<(A::Elem, B::Elem), Fault> {
-        sides(*view).get(i)
+        let (first, second) = sides(*view);
+        both(&first, &second, i)
     }
 
     fn view_slice_len<S: Store>(
         view: &View<'_, '_, Pair<A, B>, S>,
         k: usize,
     ) -> Result<usize, Fault> {
-        sides(*view).slice_len(k)
+        let (first, second) = sides(*view);
+        joint_len(&first, &second, k)
     }
 
     fn view_slice_word<S: Store>(
@@ -153,6 +148,7 @@ impl<A: FromBytes + Index, B: FromBytes + Index> FromBytes for Pair<A, B> {
         k: usize,
         i: usize,
     ) -> Result<u64, Fault> {
-        sides(*view).slice_word(k, i)
+        let (first, second) = sides(*view);
+        joint_word(&first, &second, k, i)
     }
 }

@@ -2,19 +2,19 @@
 ghost use Rattle.std.specs.Prelude.{◌≡◌, List, [], ◌++◌, length, zip};
 ghost use Rattle.std.proofs.ByRecursion.{All-append};
 ghost use Rattle.area.specs.Slice.{WellFormed};
-ghost use Rattle.column.specs.Column.{beside};
+ghost use Rattle.column.specs.Column.{beside, element, slice_length, word_in_slice};
 ghost use Rattle.tuple.specs.Pair.{pair_format, pair_takes};
-ghost use Rattle.tuple.specs.PairLaws.{pair_held, pair_laws, pair_written};
+ghost use Rattle.tuple.specs.PairLaws.{pair_counted, pair_held, pair_laws, pair_written, same_length};
 
 use area::fault::{Fault, Refusal};
 use column::element::Value;
-use column::kind::{AsBytes, Column, Index, Kind, MAX_WORDS, Side};
+use column::kind::{AsBytes, Column, Index, Kind, Listed, MAX_WORDS, Side};
 
 #[derive(Drop)]
-pub struct Pair<A: Index, B: Index> {
+pub struct Pair<A: Kind, B: Kind> {
     pub(crate) first: A,
     pub(crate) second: B,
-    ghost level: { length (A.Index.list first) ≡ length (B.Index.list second) },
+    ghost level: { A.Kind.elements first ≡ B.Kind.elements second },
 }
 
 impl<A: Column, B: Column> Pair<A, B> {
@@ -29,7 +29,48 @@ impl<A: Column, B: Column> Pair<A, B> {
     }
 }
 
-impl<A: Index, B: Index> Index for Pair<A, B> {
+// The elements at place `i` of two lists that are as long as one another.
+pub(crate) fn both<A: Index, B: Index>(
+    first: &A,
+    second: &B,
+    i: usize,
+) -> Result<(A::Item, B::Item), Fault>
+    requires { length (A.Index.list first.now) ≡ length (B.Index.list second.now) }
+    ensures { result ≡ element (zip (A.Index.list first.now) (B.Index.list second.now)) i }
+{
+    Ok((first.get(i)?, second.get(i)?))
+}
+
+// The byte length of slice `k` of the slices of one and then those of another, which refuses what is past its own.
+pub(crate) fn joint_len<A: AsBytes, B: AsBytes>(
+    first: &A,
+    second: &B,
+    k: usize,
+) -> Result<usize, Fault>
+    ensures { result ≡ slice_length (A.AsBytes.slices first.now ++ B.AsBytes.slices second.now) k }
+{
+    match Side::of(k, first.slices(), MAX_WORDS)? {
+        Side::First(j) => first.slice_len(j),
+        Side::Second(j) => second.slice_len(j),
+    }
+}
+
+// Word `i` of slice `k` of these.
+pub(crate) fn joint_word<A: AsBytes, B: AsBytes>(
+    first: &A,
+    second: &B,
+    k: usize,
+    i: usize,
+) -> Result<u64, Fault>
+    ensures { result ≡ word_in_slice (A.AsBytes.slices first.now ++ B.AsBytes.slices second.now) k i }
+{
+    match Side::of(k, first.slices(), MAX_WORDS)? {
+        Side::First(j) => first.slice_word(j, i),
+        Side::Second(j) => second.slice_word(j, i),
+    }
+}
+
+impl<A: Listed, B: Listed> Index for Pair<A, B> {
     type Item = (A::Item, B::Item);
 
     ghost list = { λ c. zip (A.Index.list c.first) (B.Index.list c.second) };
@@ -39,11 +80,11 @@ impl<A: Index, B: Index> Index for Pair<A, B> {
     }
 
     fn get(&self, i: usize) -> Result<(A::Item, B::Item), Fault> {
-        Ok((self.first.get(i)?, self.second.get(i)?))
+        both(&self.first, &self.second, i)
     }
 }
 
-impl<A: AsBytes, B: AsBytes> AsBytes for Pair<A, B> {
+impl<A: Listed + AsBytes, B: Listed + AsBytes> AsBytes for Pair<A, B> {
     ghost slices = { λ c. A.AsBytes.slices c.first ++ B.AsBytes.slices c.second };
 
     ghost formed = { λ c. All-append WellFormed (A.AsBytes.slices c.first) (B.AsBytes.slices c.second) (A.AsBytes.formed c.first) (B.AsBytes.formed c.second) };
@@ -56,24 +97,20 @@ impl<A: AsBytes, B: AsBytes> AsBytes for Pair<A, B> {
     }
 
     fn slice_len(&self, k: usize) -> Result<usize, Fault> {
-        match Side::of(k, self.first.slices(), self.second.slices())? {
-            Side::First(j) => self.first.slice_len(j),
-            Side::Second(j) => self.second.slice_len(j),
-        }
+        joint_len(&self.first, &self.second, k)
     }
 
     fn slice_word(&self, k: usize, i: usize) -> Result<u64, Fault> {
-        match Side::of(k, self.first.slices(), self.second.slices())? {
-            Side::First(j) => self.first.slice_word(j, i),
-            Side::Second(j) => self.second.slice_word(j, i),
-        }
+        joint_word(&self.first, &self.second, k, i)
     }
 }
 
-impl<A: Kind + Index, B: Kind + Index> Kind for Pair<A, B> {
+impl<A: Kind, B: Kind> Kind for Pair<A, B> {
     type Elem = (A::Elem, B::Elem);
 
     ghost format = { pair_format A.Kind.format B.Kind.format };
+
+    ghost elements = { λ c. A.Kind.elements c.first };
 
     ghost laws = { pair_laws A.Kind.laws B.Kind.laws };
 
@@ -84,14 +121,18 @@ impl<A: Kind + Index, B: Kind + Index> Kind for Pair<A, B> {
     }
 }
 
+impl<A: Listed, B: Listed> Listed for Pair<A, B> {
+    ghost counted = { λ c. pair_counted _ _ (A.Listed.counted c.first) (B.Listed.counted c.second) c.level };
+}
+
 impl<A: Column, B: Column> Column for Pair<A, B> {
     ghost areas = { λ c. beside (A.Column.areas c.first) (B.Column.areas c.second) };
 
     ghost takes = { pair_takes A.Column.takes B.Column.takes };
 
-    ghost held = { λ c. pair_held _ _ c.level A.Elem.Value.fits B.Elem.Value.fits (A.Column.held c.first) (B.Column.held c.second) };
+    ghost held = { λ c. pair_held _ _ (same_length (A.Index.list c.first) (B.Index.list c.second) (A.Listed.counted c.first) (B.Listed.counted c.second) c.level) A.Elem.Value.fits B.Elem.Value.fits (A.Column.held c.first) (B.Column.held c.second) };
 
-    ghost written = { λ c. pair_written _ _ c.level A.Kind.format B.Kind.format _ _ (A.Column.written c.first) (B.Column.written c.second) };
+    ghost written = { λ c. pair_written _ _ (same_length (A.Index.list c.first) (B.Index.list c.second) (A.Listed.counted c.first) (B.Listed.counted c.second) c.level) A.Kind.format B.Kind.format _ _ (A.Column.written c.first) (B.Column.written c.second) };
 
     fn takes(&self, x: (A::Elem, B::Elem)) -> bool {
         self.first.takes(x.0) && self.second.takes(x.1)

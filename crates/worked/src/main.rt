@@ -223,7 +223,9 @@ fn sinks(rt: &HostRuntime) -> io::Result<()> {
         "to a word area",
         write(&bytes, &mut WordSink::new(&mut words)),
     )?;
-    hex(rt, "word area", &words)?;
+    let [a, b, c, d] = words;
+    // in one write, as a line that a failed write leaves whole or not at all
+    println!(rt; "word area: {a:x} {b:x} {c:x} {d:x}")?;
     let mut short = [0xffu8; 18];
     let mut quota = Quota::new(ByteSink::new(&mut short), 18);
     done(rt, "to a quota", write(&bytes, &mut quota))?;

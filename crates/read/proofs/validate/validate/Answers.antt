@@ -1,6 +1,6 @@
-use Rattle.std.proofs.Common.{ap}
+use Rattle.std.proofs.Common.{ap, refl}
 use Rattle.std.proofs.lemmas.Result.{err_from_is_err_and}
-use Rattle.read.proofs.AdmissionLemmas.{all_asked, form_admitted, form_unread, size-admitted, there_all}
+use Rattle.read.proofs.AdmissionLemmas.{admitted_list, all_asked, form_admitted, form_unread, size-admitted, there_all}
 use Rattle.read.proofs.FormLemmas.{size-passed}
 use Rattle.read.proofs.validate.validate.Goals as goal
 
@@ -37,4 +37,16 @@ invariant_of-result g c =
     let z = size-passed 0 _ c.in_ok-sized.field-0 ((rw q at c.in_ok-sized.ensures) t) in
     let e = rw q at c.in_ok-form.ensures in
     let f = form_admitted F ws c.slice_count.result c.slice_count.ensures h.0 g.K.ReadForm.slices g.K.ReadForm.kept z c.in_ok-form.form (g.met.S.Store.whole c.args.store) (e t z) in
-    record { stands = f.0; whole = f.1; asked = all_asked F ws c.slice_count.result c.slice_count.ensures h.0 }
+    record { passed = f.0.passed; stands = ∣ f.0 ∣₁; whole = f.1; asked = all_asked F ws c.slice_count.result c.slice_count.ensures h.0 }
+
+pub returns : goal.returns
+returns g c =
+    let F = g.K.Kind.format in
+    let ws = g.S.Store.words c.args.store in
+    let h = c.in_ok-image.ensures in
+    let q = ap (λ s. s.now) h.1 in
+    let t = there_all F ws c.slice_count.result c.slice_count.ensures h.0 in
+    let z = size-passed 0 _ c.in_ok-sized.field-0 ((rw q at c.in_ok-sized.ensures) t) in
+    let e = rw q at c.in_ok-form.ensures in
+    let f = form_admitted F ws c.slice_count.result c.slice_count.ensures h.0 g.K.ReadForm.slices g.K.ReadForm.kept z c.in_ok-form.form (g.met.S.Store.whole c.args.store) (e t z) in
+    (refl, admitted_list ws f.0.passed f.1 (all_asked F ws c.slice_count.result c.slice_count.ensures h.0))

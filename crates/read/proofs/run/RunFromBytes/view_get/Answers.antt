@@ -1,11 +1,11 @@
 use Rattle.std.proofs.Common.{Err, ap, ◌∙◌, arith}
-use Rattle.read.proofs.RunFormLemmas.{run_at, run_past, run_room}
+use Rattle.read.proofs.RunFormLemmas.{run_at, run_past, run_room, run_stood}
 use Rattle.read.proofs.run.RunFromBytes.view_get.Goals as goal
 
 pub returns-then-i-count_in : goal.returns-then-i-count_in
-returns-then-i-count_in g c = ap Err c.at_start.ensures ∙ run_past g.met.T.Element.one_to_one c.args.view.now.stands c.args.i (omega arith)
+returns-then-i-count_in g c = ap Err c.at_start.ensures ∙ run_past g.met.T.Element.one_to_one (run_stood c.args.view.now.stands) c.args.i (omega arith)
 
 pub returns : goal.returns
 returns g c =
-    let e = c.read.ensures (run_room g.met.T.Element.one_to_one c.args.view.now.stands c.args.i (omega arith)) in
-    rw (c.ok_or.ensures.value, e) (run_at g.met.T.Element.one_to_one c.args.view.now.stands c.args.i (omega arith))
+    let e = c.read.ensures (run_room g.met.T.Element.one_to_one (run_stood c.args.view.now.stands) c.args.i (omega arith)) in
+    rw (c.ok_or.ensures.value, e) (run_at g.met.T.Element.one_to_one (run_stood c.args.view.now.stands) c.args.i (omega arith))
