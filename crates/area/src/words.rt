@@ -6,6 +6,18 @@ ghost use Rattle.area.specs.Slice.{join_at};
 pub fn join(bytes: &[u8], at: usize) -> Option<u64>
     ensures { result ≡ join_at bytes.now at }
 {
-    let eight = bytes.get(at..)?.first_chunk::<8>()?;
-    Some(u64::from_le_bytes(*eight))
+    // by places: of `get` and `first_chunk` each word takes half as many instructions more
+    if bytes.len() < 8 || at > bytes.len() - 8 {
+        return None;
+    }
+    Some(u64::from_le_bytes([
+        bytes[at],
+        bytes[at + 1],
+        bytes[at + 2],
+        bytes[at + 3],
+        bytes[at + 4],
+        bytes[at + 5],
+        bytes[at + 6],
+        bytes[at + 7],
+    ]))
 }

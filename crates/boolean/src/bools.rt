@@ -1,5 +1,5 @@
 // Bools: full groups of 64 as words of the column below, the rest in a tail.
-ghost use Rattle.std.specs.Prelude.{◌≡◌, ◌+◌, ◌*◌, ◌^◌, ◌<◌, ◌≤◌, List, [], ◌∷◌, ◌++◌, length, slice_index_or};
+ghost use Rattle.std.specs.Prelude.{◌≡◌, ◌+◌, ◌*◌, ◌^◌, ◌<◌, ◌≤◌, List, [], ◌∷◌, ◌++◌, slice_index_or};
 ghost use Rattle.column.specs.Kind.{L};
 ghost use Rattle.boolean.specs.Bools.{bools_list, tail_slice, bools_format, bools_takes, range_bits, given_bits, bits_pushed, push_bits_answer};
 ghost use Rattle.boolean.specs.BoolsLaws.{bools_counted, bools_formed, bools_held, bools_laws, bools_written, few_elements};

@@ -1,5 +1,5 @@
 // The read form of bools, over the read form of the words below.
-ghost use Rattle.std.specs.Prelude.{◌≡◌, ℕ, ◌+◌, ◌-◌, ◌*◌, ◌^◌, ◌≤◌, min, List, [], ◌∷◌, ◌++◌};
+ghost use Rattle.std.specs.Prelude.{◌≡◌, ℕ, ◌+◌, ◌-◌, ◌*◌, ◌^◌, ◌≤◌, min, List, [], ◌∷◌, ◌++◌, slice_index_or};
 ghost use Rattle.std.specs.Option.{ok_or};
 ghost use Rattle.area.specs.Fault.{refuse};
 ghost use Rattle.area.specs.Slice.{of_words, words_for};
@@ -12,7 +12,7 @@ ghost use Rattle.boolean.specs.Form.{BoolsKept, bools_slices, slice_tail};
 use crate::bools::Bools;
 use crate::tail::Tail;
 use area::fault::{Fault, Refusal};
-use column::kind::{AsBytes, Index, Kind, MAX_LEN, Side};
+use column::kind::{Index, Kind, MAX_LEN, Side};
 use decode::decoded::DecodedStore;
 use decode::span::Span;
 use read::form::{FromBytes, ReadForm};
@@ -69,6 +69,50 @@ pub fn bits_at<C: FromBytes<Elem = u64>, S: Store>(
     bools_in(view).bits_at(pos, count)
 }
 
+// The group that element 64 × `block` of a form begins, which is the tail past the full groups.
+fn word_at<C: FromBytes<Elem = u64>, S: Store>(
+    form: &BoolsForm<C::Form>,
+    store: &S,
+    block: usize,
+) -> u64
+    ensures { Stands C.ReadForm.slices C.ReadForm.kept C.Kind.format form.now.values (S.Store.words store.now) → result ≡ slice_index_or (list_of C.Kind.format (C.ReadForm.slices form.now.values (S.Store.words store.now))) block form.now.tail.word }
+{
+    C::form_get(&form.values, store, block).unwrap_or(form.tail.word)
+}
+
+// The same as `bits_at` of a form and a store, for a caller who has no view: what it answers is said of a form that stands.
+pub fn form_bits_at<C: FromBytes<Elem = u64>, S: Store>(
+    form: &BoolsForm<C::Form>,
+    store: &S,
+    pos: usize,
+    count: usize,
+) -> Result<u64, Fault>
+    ensures { Stands (bools_slices C.ReadForm.slices) (BoolsKept C.ReadForm.kept) (bools_format C.Kind.format) form.now (S.Store.words store.now) → result ≡ range_bits (list_of (bools_format C.Kind.format) (bools_slices C.ReadForm.slices form.now (S.Store.words store.now))) pos count }
+{
+    if count > 64 {
+        return Err(Fault::at_start(Refusal::BitCount));
+    }
+    let len = Bools::<C>::form_len(form);
+    if pos > len || count > len - pos {
+        return Err(Fault::at_start(Refusal::OutOfRange));
+    }
+    if count == 0 {
+        return Ok(0);
+    }
+    let block = pos / 64;
+    let bit = pos % 64;
+    let mut word = word_at::<C, S>(form, store, block) >> bit;
+    if bit + count > 64 {
+        word |= word_at::<C, S>(form, store, block + 1) << (64 - bit);
+    }
+    let mask = if count < 64 {
+        (1 << count) - 1
+    } else {
+        u64::MAX
+    };
+    Ok(word & mask)
+}
+
 impl<C: ReadForm<Elem = u64>> ReadForm for Bools<C> {
     type Form = BoolsForm<C::Form>;
 
@@ -101,30 +145,30 @@ impl<C: FromBytes<Elem = u64>> FromBytes for Bools<C> {
         form.tail.len(C::form_len(&form.values))
     }
 
-    fn view_get<S: Store>(view: &View<'_, '_, Bools<C>, S>, i: usize) -> Result<bool, Fault> {
-        bools_in(view).get(i)
+    fn form_get<S: Store>(form: &BoolsForm<C::Form>, store: &S, i: usize) -> Result<bool, Fault> {
+        Ok(form_bits_at::<C, S>(form, store, i, 1)? == 1)
     }
 
-    fn view_slice_len<S: Store>(
-        view: &View<'_, '_, Bools<C>, S>,
-        k: usize,
-    ) -> Result<usize, Fault> {
-        let bools = bools_in(view);
-        match Side::of(k, bools.values.slices(), 1)? {
-            Side::First(j) => bools.values.slice_len(j),
-            Side::Second(_) => Ok(8 * view.form.place.words()),
+    fn form_slice_len(form: &BoolsForm<C::Form>, k: usize) -> Result<usize, Fault> {
+        match Side::of(k, C::slice_count(), 1)? {
+            Side::First(j) => C::form_slice_len(&form.values, j),
+            Side::Second(_) => Ok(form.place.words().saturating_mul(8)),
         }
     }
 
-    fn view_slice_word<S: Store>(
-        view: &View<'_, '_, Bools<C>, S>,
+    fn form_slice_word<S: Store>(
+        form: &BoolsForm<C::Form>,
+        store: &S,
         k: usize,
         i: usize,
     ) -> Result<u64, Fault> {
-        let bools = bools_in(view);
-        match Side::of(k, bools.values.slices(), 1)? {
-            Side::First(j) => bools.values.slice_word(j, i),
-            Side::Second(_) => view.form.place.word(view.store, i),
+        match Side::of(k, C::slice_count(), 1)? {
+            Side::First(j) => C::form_slice_word(&form.values, store, j, i),
+            Side::Second(_) => form.place.word(store, i),
         }
+    }
+
+    fn view_get<S: Store>(view: &View<'_, '_, Bools<C>, S>, i: usize) -> Result<bool, Fault> {
+        bools_in(view).get(i)
     }
 }

@@ -141,8 +141,9 @@ impl<'a, T: Element> Column for Run<'a, T> {
         if !self.takes(x) {
             return Err(Fault::at_start(Refusal::NotTaken));
         }
-        self.cells[self.len] = x;
-        self.len += 1;
+        let at = self.len;
+        self.cells[at] = x;
+        self.len = at + 1;
         Ok(())
     }
 

@@ -8,11 +8,11 @@ use Rattle.std.proofs.Props.{props}
 use Rattle.area.specs.Slice.{Slice, of_words}
 use Rattle.area.specs.declared.fault.Fault.{Fault}
 use Rattle.area.specs.declared.fault.Refusal.TheVariants.{SliceContent}
-use Rattle.column.specs.Column.{element, word_in_slice}
+use Rattle.column.specs.Column.{element, slice_length, word_in_slice}
 use Rattle.column.specs.Kind.{CAP, L, after, first_refused, further, least_words, reading_within, reads, slot, word_of}
 use Rattle.column.specs.KindLemmas.{least_words_lem, neither}
 use Rattle.column.specs.Run.{word_run}
-use Rattle.column.proofs.SliceAt.{word_in_slice_right}
+use Rattle.column.proofs.SliceAt.{slice_length_right, word_in_slice_right}
 use Rattle.decode.specs.Decode.{Inside, least_words_answer, slice_in, slices_of, span_answer, structure_fault}
 use Rattle.decode.proofs.DecodeLemmas.{asked-passed, slices_under}
 use Rattle.decode.specs.declared.span.Span.{Span}
@@ -55,12 +55,19 @@ module _ (t : StridesForm) (ws : List ℕ) (h : Stands strides_slices StridesKep
   pub strides-is : list_of (strides_format word_run) (strides_slices t ws) ≡ strides_list t.head.stride t.head.length bounds_of
   strides-is = apart.is ∙ sym (ap₂ (λ s n. strides_list s n apart.bs) h.keeps.stride h.keeps.length) ∙ ap (strides_list t.head.stride t.head.length) (sym same)
 
+  pub strides_fit : t.head.stride * t.head.length < 2 ^ 64
+  strides_fit = subst (λ m. m < 2 ^ 64) (sym (ap₂ ◌*◌ h.keeps.stride h.keeps.length)) apart.fits
+
   pub strides_short : t.head.length + length bounds_of ≤ L
   strides_short = omega (arith, apart.short, h.keeps.length, ap length same)
 
-  -- a slice that it gives behind the head's
-  pub given_word : (k i : ℕ) (r : Result ℕ Fault) → 0 < k → r ≡ word_in_slice (word_run.giving (run_slices t.bounds ws)) (k - 1) i → r ≡ word_in_slice ((strides_format word_run).giving (strides_slices t ws)) k i
-  given_word k i r p e = e ∙ sym (word_in_slice_right (of_words (slice_in ws t.place).words ∷ []) (word_run.giving (run_slices t.bounds ws)) k i (omega arith) (λ q. omega arith))
+  -- what it gives behind the head's slice
+  module _ (k : ℕ) (p : 0 < k) where
+    pub given_length : slice_length (word_run.giving (run_slices t.bounds ws)) (k - 1) ≡ slice_length ((strides_format word_run).giving (strides_slices t ws)) k
+    given_length = sym (slice_length_right (of_words (slice_in ws t.place).words ∷ []) (word_run.giving (run_slices t.bounds ws)) k (omega arith) (λ q. omega arith))
+
+    pub given_word : (i : ℕ) → word_in_slice (word_run.giving (run_slices t.bounds ws)) (k - 1) i ≡ word_in_slice ((strides_format word_run).giving (strides_slices t ws)) k i
+    given_word i = sym (word_in_slice_right (of_words (slice_in ws t.place).words ∷ []) (word_run.giving (run_slices t.bounds ws)) k i (omega arith) (λ q. omega arith))
 
 -- no slice that is found has a number as great as CAP, whatever is answered of it
 found_by : {X : Type 0} (b : Bool) (r : Result X Fault) (f : Fault) (x : X) → Ok x ≡ cond b r (Err f) → b ≡ true

@@ -1,6 +1,6 @@
 // The read form of strides: the place of the head, its numbers, and the place of the bounds.
 ghost use Rattle.std.specs.Prelude.{◌≡◌, ℕ, List, length, None};
-ghost use Rattle.std.proofs.Props.{props};
+ghost use Rattle.column.specs.Column.{element, slice_length, word_in_slice};
 ghost use Rattle.column.specs.Run.{word_run};
 ghost use Rattle.read.specs.Form.{FormAnswer, Stands, There, list_of, size_answer, slices_within};
 ghost use Rattle.offsets.specs.Strides.{strides_format};
@@ -9,7 +9,7 @@ ghost use Rattle.offsets.specs.Form.{StridesKept, strides_slices};
 use crate::head::Head;
 use crate::strides::Strides;
 use area::fault::{Fault, Refusal};
-use column::kind::{AsBytes, Kind, MAX_LEN};
+use column::kind::{Kind, MAX_LEN};
 use column::run::Run;
 use decode::decoded::DecodedStore;
 use decode::span::Span;
@@ -82,28 +82,40 @@ impl<'a> FromBytes for Strides<'a> {
         form.head.len(Run::<u64>::form_len(&form.bounds))
     }
 
-    fn view_get<S: Store>(view: &View<'_, '_, Strides<'a>, S>, i: usize) -> Result<u64, Fault> {
-        view.form.head.get(&bounds_of(view), i)
-    }
-
-    fn view_slice_len<S: Store>(
-        view: &View<'_, '_, Strides<'a>, S>,
-        k: usize,
-    ) -> Result<usize, Fault> {
-        if k > 0 {
-            return bounds_of(view).slice_len(k - 1);
+    fn form_get<S: Store>(form: &StridesForm, store: &S, i: usize) -> Result<u64, Fault>
+        ensures { Stands strides_slices StridesKept (strides_format word_run) form.now (S.Store.words store.now) → result ≡ element (list_of (strides_format word_run) (strides_slices form.now (S.Store.words store.now))) i }
+    {
+        let length = form.head.length as usize;
+        if i < length {
+            return Ok(form.head.stride.wrapping_mul(i as u64 + 1));
         }
-        Ok(8 * view.form.place.words())
+        Run::<u64>::form_get(&form.bounds, store, i - length)
     }
 
-    fn view_slice_word<S: Store>(
-        view: &View<'_, '_, Strides<'a>, S>,
+    fn form_slice_len(form: &StridesForm, k: usize) -> Result<usize, Fault>
+        ensures { (ws : List ℕ) → Stands strides_slices StridesKept (strides_format word_run) form.now ws → result ≡ slice_length ((strides_format word_run).giving (strides_slices form.now ws)) k }
+    {
+        if k > 0 {
+            return Run::<u64>::form_slice_len(&form.bounds, k - 1);
+        }
+        Ok(form.place.words().saturating_mul(8))
+    }
+
+    fn form_slice_word<S: Store>(
+        form: &StridesForm,
+        store: &S,
         k: usize,
         i: usize,
-    ) -> Result<u64, Fault> {
+    ) -> Result<u64, Fault>
+        ensures { Stands strides_slices StridesKept (strides_format word_run) form.now (S.Store.words store.now) → result ≡ word_in_slice ((strides_format word_run).giving (strides_slices form.now (S.Store.words store.now))) k i }
+    {
         if k > 0 {
-            return bounds_of(view).slice_word(k - 1, i);
+            return Run::<u64>::form_slice_word(&form.bounds, store, k - 1, i);
         }
-        view.form.place.word(view.store, i)
+        form.place.word(store, i)
+    }
+
+    fn view_get<S: Store>(view: &View<'_, '_, Strides<'a>, S>, i: usize) -> Result<u64, Fault> {
+        view.form.head.get(&bounds_of(view), i)
     }
 }

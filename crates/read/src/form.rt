@@ -37,13 +37,35 @@ pub trait FromBytes: ReadForm {
     fn form_len(form: &Self::Form) -> usize
         ensures { (ws : List ℕ) → Stands Self.ReadForm.slices Self.ReadForm.kept Self.Kind.format form.now ws → result ≡ length (list_of Self.Kind.format (Self.ReadForm.slices form.now ws)) };
 
-    // The element at place `i`; 10 at or past the length.
+    // The same of a form and a store, for a caller who has no view: what they answer is said of a form that stands.
+    fn form_get<S: Store>(form: &Self::Form, store: &S, i: usize) -> Result<Self::Elem, Fault>
+        ensures { Stands Self.ReadForm.slices Self.ReadForm.kept Self.Kind.format form.now (S.Store.words store.now) → result ≡ element (list_of Self.Kind.format (Self.ReadForm.slices form.now (S.Store.words store.now))) i };
+
+    fn form_slice_len(form: &Self::Form, k: usize) -> Result<usize, Fault>
+        ensures { (ws : List ℕ) → Stands Self.ReadForm.slices Self.ReadForm.kept Self.Kind.format form.now ws → result ≡ slice_length (Self.Kind.format.giving (Self.ReadForm.slices form.now ws)) k };
+
+    fn form_slice_word<S: Store>(
+        form: &Self::Form,
+        store: &S,
+        k: usize,
+        i: usize,
+    ) -> Result<u64, Fault>
+        ensures { Stands Self.ReadForm.slices Self.ReadForm.kept Self.Kind.format form.now (S.Store.words store.now) → result ≡ word_in_slice (Self.Kind.format.giving (Self.ReadForm.slices form.now (S.Store.words store.now))) k i };
+
+    // The element at place `i`; 10 at or past the length. This and the next two are answered by the form, where a kind has no
+    // code of its column's for it.
     fn view_get<S: Store>(view: &View<'_, '_, Self, S>, i: usize) -> Result<Self::Elem, Fault>
-        ensures { result ≡ element (list_of Self.Kind.format (Self.ReadForm.slices view.now.form.now (S.Store.words view.now.store.now))) i };
+        ensures { result ≡ element (list_of Self.Kind.format (Self.ReadForm.slices view.now.form.now (S.Store.words view.now.store.now))) i }
+    {
+        Self::form_get(view.form, view.store, i)
+    }
 
     // The byte length of slice `k` of those that the view gives.
     fn view_slice_len<S: Store>(view: &View<'_, '_, Self, S>, k: usize) -> Result<usize, Fault>
-        ensures { result ≡ slice_length (Self.Kind.format.giving (Self.ReadForm.slices view.now.form.now (S.Store.words view.now.store.now))) k };
+        ensures { result ≡ slice_length (Self.Kind.format.giving (Self.ReadForm.slices view.now.form.now (S.Store.words view.now.store.now))) k }
+    {
+        Self::form_slice_len(view.form, k)
+    }
 
     // Word `i` of slice `k` of these.
     fn view_slice_word<S: Store>(
@@ -51,5 +73,8 @@ pub trait FromBytes: ReadForm {
         k: usize,
         i: usize,
     ) -> Result<u64, Fault>
-        ensures { result ≡ word_in_slice (Self.Kind.format.giving (Self.ReadForm.slices view.now.form.now (S.Store.words view.now.store.now))) k i };
+        ensures { result ≡ word_in_slice (Self.Kind.format.giving (Self.ReadForm.slices view.now.form.now (S.Store.words view.now.store.now))) k i }
+    {
+        Self::form_slice_word(view.form, view.store, k, i)
+    }
 }

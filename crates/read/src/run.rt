@@ -50,34 +50,27 @@ impl<'a, T: Stored> FromBytes for Run<'a, T> {
         count_in::<T>(form.bytes)
     }
 
-    fn view_get<S: Store>(view: &View<'_, '_, Run<'a, T>, S>, i: usize) -> Result<T, Fault> {
-        if i >= count_in::<T>(view.form.bytes) {
+    fn form_get<S: Store>(form: &Span, store: &S, i: usize) -> Result<T, Fault> {
+        if i >= count_in::<T>(form.bytes) {
             return Err(Fault::at_start(Refusal::OutOfRange));
         }
-        T::read(view.store, view.form.from, i).ok_or(Fault::at_start(Refusal::OutOfRange))
+        T::read(store, form.from, i).ok_or(Fault::at_start(Refusal::OutOfRange))
     }
 
-    fn view_slice_len<S: Store>(
-        view: &View<'_, '_, Run<'a, T>, S>,
-        k: usize,
-    ) -> Result<usize, Fault> {
+    fn form_slice_len(form: &Span, k: usize) -> Result<usize, Fault> {
         if k > 0 {
             return Err(Fault::at_start(Refusal::OutOfRange));
         }
-        Ok(view.form.bytes)
+        Ok(form.bytes)
     }
 
     // Bytes of the last word past the slice's end are given as 0.
-    fn view_slice_word<S: Store>(
-        view: &View<'_, '_, Run<'a, T>, S>,
-        k: usize,
-        i: usize,
-    ) -> Result<u64, Fault> {
+    fn form_slice_word<S: Store>(form: &Span, store: &S, k: usize, i: usize) -> Result<u64, Fault> {
         if k > 0 {
             return Err(Fault::at_start(Refusal::OutOfRange));
         }
-        let word = view.form.word(view.store, i)?;
-        let left = view.form.bytes - 8 * i;
+        let word = form.word(store, i)?;
+        let left = form.bytes.saturating_sub(i.saturating_mul(8));
         if left >= 8 {
             return Ok(word);
         }

@@ -130,10 +130,12 @@ impl<C: Column + FromBytes + Drop, B: Store + Drop, A: Store + Drop> Stash<C, B,
                 Stash::Bytes(_) | Stash::Align(_) => not_typed(),
             },
             Event::MakeTyped(ready) => {
-                if let Stash::Typed(_) = self {
-                    return Ok(());
-                }
-                let filled = fill(ready, self)?;
+                // from one view, and not from the table, which would be asked for its state at each element
+                let filled = match &*self {
+                    Stash::Typed(_) => return Ok(()),
+                    Stash::Bytes(image) => fill(ready, &image.view())?,
+                    Stash::Align(image) => fill(ready, &image.view())?,
+                };
                 *self = Stash::Typed(filled);
                 Ok(())
             }

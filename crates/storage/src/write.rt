@@ -77,7 +77,11 @@ impl<'a> WriteBytes for ByteSink<'a> {
             return Err(Full);
         }
         let end = self.at + bytes.len();
-        self.area[self.at..end].copy_from_slice(bytes);
+        match bytes {
+            // one byte takes less than a call that copies
+            [byte] => self.area[self.at] = *byte,
+            _ => self.area[self.at..end].copy_from_slice(bytes),
+        }
         self.at = end;
         Ok(())
     }

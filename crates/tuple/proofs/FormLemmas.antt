@@ -1,16 +1,14 @@
 -- The two sides of a form of pairs.
-use Rattle.std.proofs.Common.{◌≡◌, ℕ, ◌+◌, ◌^◌, ◌<◌, Bool, true, eqb, is_ok, List, [], ◌∷◌, ◌++◌, length, take, drop, zip, None, Ok, Err, Result, sym, refl, ap, ◌∙◌, subst, ap₂, take-append-drop, take_at, drop_at, arith}
+use Rattle.std.proofs.Common.{◌≡◌, ℕ, ◌+◌, ◌^◌, ◌<◌, min, Bool, true, eqb, is_ok, List, [], ◌∷◌, ◌++◌, length, take, drop, zip, None, Ok, Err, Result, sym, refl, ap, ◌∙◌, subst, ap₂, take-append-drop, take_at, drop_at, arith}
 use lib.ListN.{length-map}
-use Rattle.std.specs.Coded.{Coded-set, coded_ℕ}
 use Rattle.std.specs.List.{AllByRecursion}
-use Rattle.std.proofs.Math.Logic.{∥∥₁_elim}
 use Rattle.std.specs.Result.{MatchResult, OkIff}
 use Rattle.std.proofs.lemmas.Bool.{eq-eqb, ne_eqb}
 use Rattle.area.specs.Fault.{refuse}
 use Rattle.area.specs.Slice.{Slice}
 use Rattle.area.specs.declared.fault.Fault.{Fault}
 use Rattle.area.specs.declared.fault.Refusal.TheVariants.{SliceContent}
-use Rattle.column.specs.Kind.{Format, Reading, after, reading_within, reads, refuses}
+use Rattle.column.specs.Kind.{CAP, Format, Laws, Reading, after, reading_within, reads, refuses}
 use Rattle.column.specs.KindLemmas.{neither}
 use Rattle.decode.specs.Decode.{structure_fault}
 use Rattle.read.specs.declared.form.ReadForm.{Ghosts as FormMembers}
@@ -52,6 +50,10 @@ module _ {A B : Type 0} (F : Format A) (G : Format B) (ls rs : List Slice) (coun
   list_sides level =
       zip-together (F.reading ls) (G.reading rs) level ∙ sym (ap₂ (λ us vs. together (F.reading us) (G.reading vs)) (take_at ls rs F.slots count) (drop_at ls rs F.slots count))
 
+-- a kind gives as many slices as it has, of a form that stands
+pub counted_left : {E X : Type 0} {fits : E → Bool} {F : Format E} {slices : X → List ℕ → List Slice} {kept : X → List ℕ → Type 0} {t : X} {ws : List ℕ} → Laws fits F → Stands slices kept F t ws → (n : ℕ) → n ≡ min F.slots CAP → n ≡ min (length (F.giving (slices t ws))) CAP
+counted_left {F} {slices} {t} {ws} laws s n h = h ∙ ap (λ m. min m CAP) (sym (laws.given (slices t ws) _ (accepted s)).0.count)
+
 -- the two sides of a form of pairs
 module _ {K J X Y A B : Type 0} (l : FormMembers K X A) (r : FormMembers J Y B) (F : Format A) (G : Format B) (t : PairForm X Y) (ws : List ℕ) where
   pub record Apart : Type 0 where
@@ -72,21 +74,6 @@ module _ {K J X Y A B : Type 0} (l : FormMembers K X A) (r : FormMembers J Y B) 
         right = v.0;
         level = ap length u.1 ∙ length-map xs (λ x. x.0) ∙ sym (ap length v.1 ∙ length-map xs (λ x. x.1));
       }
-
-  -- what is known of a view, whose form stands without a proof at hand
-  pub record Seen : Type 0 where
-    pub left : ∥ Stands l.slices l.kept F t.first ws ∥₁
-    pub right : ∥ Stands r.slices r.kept G t.second ws ∥₁
-    pub level : length (list_of F (l.slices t.first ws)) ≡ length (list_of G (r.slices t.second ws))
-    pub count : length (l.slices t.first ws) ≡ F.slots
-
-  pub seen : ∥ Stands (pair_slices l r) (PairKept l r F.slots) (pair_format F G) t ws ∥₁ → Seen
-  seen h = record {
-    left = ∥∥₁_elim h squash₁ (λ s. ∣ (apart s).left ∣₁);
-    right = ∥∥₁_elim h squash₁ (λ s. ∣ (apart s).right ∣₁);
-    level = ∥∥₁_elim h (Coded-set coded_ℕ _ _) (λ s. (apart s).level);
-    count = ∥∥₁_elim h (Coded-set coded_ℕ _ _) (λ s. s.keeps.count);
-  }
 
 -- the answers to question 9 of a pair, from those of its sides, of which the second begins at number b
 module _ {K J X Y A B : Type 0} (l : FormMembers K X A) (r : FormMembers J Y B) (F : Format A) (G : Format B) (ws : List ℕ) (asked : structure_fault None ws ≡ None) (whole : AllByRecursion (λ w. w < 2 ^ 64) ws) (a b : ℕ) (t : There ws a (F.slots + G.slots)) (z : (pair_format F G).sized (slices_within ws a (F.slots + G.slots)) ≡ None) (e : b ≡ a + F.slots) where

@@ -3,3 +3,4 @@ pub mod EmptiesLaws
 pub mod Pair
 pub mod PairLaws
 pub mod Form
+pub mod Sides

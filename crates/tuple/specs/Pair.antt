@@ -1,5 +1,6 @@
 -- A pair: tuples, as the slices of the firsts and then those of the seconds.
-use Rattle.std.specs.Prelude.{◌+◌, Bool, false, ◌&&◌, List, ◌++◌, map, length, take, drop, zip, ◌==◌}
+use Rattle.std.specs.Prelude.{ℕ, ◌+◌, Bool, false, cond, ◌&&◌, List, [], ◌++◌, map, length, take, drop, zip, ◌==◌}
+use Rattle.area.specs.Slice.{Slice}
 use Rattle.column.specs.Column.{Areas, none, cells, beside}
 use Rattle.column.specs.Kind.{Format, first_refused, further, after, reading_within}
 
@@ -25,3 +26,14 @@ abbrev pub pair_takes : {A B : Type 0} → (Areas → List A → A → Bool) →
 pair_takes f g none xs x = false
 pair_takes f g (cells n) xs x = false
 pair_takes f g (beside a b) xs x = f a (firsts xs) x.0 && g b (seconds xs) x.1
+
+-- what is seen of a pair whose sides hold m and n elements. They always hold as many; of uneven ones nothing would be seen, so
+-- that the laws ask no premise
+abbrev pub even_count : ℕ → ℕ → ℕ
+even_count m n = cond (m == n) m 0
+
+abbrev pub even_list : {A B : Type 0} → ℕ → ℕ → List A → List B → List (A × B)
+even_list m n ls rs = cond (m == n) (zip ls rs) []
+
+abbrev pub even_slices : {A B : Type 0} → Format A → Format B → ℕ → ℕ → List Slice → List Slice → List Slice
+even_slices F G m n us vs = cond (m == n) (us ++ vs) ((pair_format F G).writing [])

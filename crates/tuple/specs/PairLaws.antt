@@ -1,5 +1,5 @@
 -- The laws of pairs, from those of the two sides.
-use Rattle.std.proofs.Common.{◌≡◌, ℕ, ◌+◌, ◌≤◌, Bool, ◌&&◌, eqb, List, [], ◌∷◌, ◌++◌, length, take, drop, zip, None, sym, refl, ap, ◌∙◌, ap₂, arith, length-append, length-drop, take-append-drop, length-take-le, take_at, drop_at}
+use Rattle.std.proofs.Common.{◌≡◌, ℕ, ◌+◌, ◌≤◌, Bool, true, false, cond, ◌&&◌, eqb, List, [], ◌∷◌, ◌++◌, length, take, drop, zip, None, sym, refl, ap, ◌∙◌, ap₂, arith, length-append, length-drop, take-append-drop, length-take-le, take_at, drop_at}
 use lib.ListN.{length-map}
 use Rattle.std.specs.List.{AllByRecursion, list_all}
 use Rattle.std.proofs.ByRecursion.{All-append, All-take, All-drop}
@@ -9,7 +9,7 @@ use Rattle.area.specs.Slice.{Slice, WellFormed, ZeroPadded, weight}
 use Rattle.area.proofs.SliceLemmas.{weight-append}
 use Rattle.column.specs.Kind.{Accepted, Format, Held, Laws, reads, after, reading_within}
 use Rattle.column.specs.KindLemmas.{after-reads, in_bounds, neither}
-use Rattle.tuple.specs.Pair.{firsts, seconds, pair_format}
+use Rattle.tuple.specs.Pair.{even_count, even_list, even_slices, firsts, seconds, pair_format}
 
 -- the two lists of a list of tuples
 module _ {A B : Type 0} where
@@ -133,3 +133,36 @@ module _ {A B : Type 0} (ls : List A) (rs : List B) (level : length ls ≡ lengt
 
   pub pair_written : (F : Format A) (G : Format B) (us vs : List Slice) → us ≡ F.writing ls → vs ≡ G.writing rs → us ++ vs ≡ (pair_format F G).writing (zip ls rs)
   pair_written F G us vs p q = let t = parts_zip ls rs level in ap₂ ◌++◌ p q ∙ sym (rw (t.0, t.1))
+
+-- the same of what is seen of a pair, whether or not its sides hold as many
+module _ {A B : Type 0} (ls : List A) (rs : List B) {m n : ℕ} (p : m ≡ length ls) (q : n ≡ length rs) where
+  level_of : eqb m n ≡ true → length ls ≡ length rs
+  level_of e = same_length ls rs p q (eqb-true m n e)
+
+  pub even_counted : even_count m n ≡ length (even_list m n ls rs)
+  even_counted = by_cases (eqb m n) refl
+    where
+      by_cases : (b : Bool) → eqb m n ≡ b → cond b m 0 ≡ length (cond b (zip ls rs) [])
+      by_cases true e = pair_counted ls rs p q (eqb-true m n e)
+      by_cases false e = refl
+
+  pub even_held : (f : A → Bool) (g : B → Bool) → Held f ls → Held g rs → Held (λ p. f p.0 && g p.1) (even_list m n ls rs)
+  even_held f g h k = by_cases (eqb m n) refl
+    where
+      by_cases : (b : Bool) → eqb m n ≡ b → Held (λ p. f p.0 && g p.1) (cond b (zip ls rs) [])
+      by_cases true e = pair_held ls rs (level_of e) f g h k
+      by_cases false e = (refl, omega arith)
+
+  pub even_written : (F : Format A) (G : Format B) (us vs : List Slice) → us ≡ F.writing ls → vs ≡ G.writing rs → even_slices F G m n us vs ≡ (pair_format F G).writing (even_list m n ls rs)
+  even_written F G us vs u v = by_cases (eqb m n) refl
+    where
+      by_cases : (b : Bool) → eqb m n ≡ b → cond b (us ++ vs) ((pair_format F G).writing []) ≡ (pair_format F G).writing (cond b (zip ls rs) [])
+      by_cases true e = pair_written ls rs (level_of e) F G us vs u v
+      by_cases false e = refl
+
+pub even_formed : {A B : Type 0} {f : A → Bool} {g : B → Bool} {F : Format A} {G : Format B} → Laws f F → Laws g G → (m n : ℕ) (us vs : List Slice) → AllByRecursion WellFormed us → AllByRecursion WellFormed vs → AllByRecursion WellFormed (even_slices F G m n us vs)
+even_formed {A} {B} {f} {g} {F} {G} LF LG m n us vs u v = by_cases (eqb m n)
+  where
+    by_cases : (b : Bool) → AllByRecursion WellFormed (cond b (us ++ vs) ((pair_format F G).writing []))
+    by_cases true = All-append WellFormed us vs u v
+    by_cases false = ((pair_laws LF LG).shape [] (refl, omega arith)).1

@@ -1,19 +1,15 @@
 // The read forms of empties and of pairs.
-ghost use Rattle.std.specs.Prelude.{◌≡◌, ℕ, List, [], ◌∷◌, ◌++◌, length, zip};
+ghost use Rattle.std.specs.Prelude.{◌≡◌, ℕ, List, [], ◌∷◌, ◌++◌};
 ghost use Rattle.decode.specs.Decode.{slice_in};
-ghost use Rattle.read.specs.Form.{list_of};
 ghost use Rattle.tuple.specs.Form.{EmptiesKept, PairKept, pair_slices};
-ghost use Rattle.tuple.specs.Pair.{pair_format};
 
 use crate::empties::Empties;
-use crate::pair::{Pair, both, joint_len, joint_word};
+use crate::pair::Pair;
 use area::fault::{Fault, Refusal};
-use column::kind::{AsBytes, Index, Kind};
+use column::kind::{AsBytes, Index, Kind, MAX_WORDS, Side};
 use decode::decoded::DecodedStore;
 use decode::span::Span;
 use read::form::{FromBytes, ReadForm};
-use read::view::View;
-use std::marker::PhantomData;
 use storage::store::Store;
 
 // The place of the count, and the count.
@@ -51,21 +47,22 @@ impl FromBytes for Empties {
         form.count.len()
     }
 
-    fn view_get<S: Store>(view: &View<'_, '_, Empties, S>, i: usize) -> Result<(), Fault> {
-        view.form.count.get(i)
+    fn form_get<S: Store>(form: &EmptiesForm, _store: &S, i: usize) -> Result<(), Fault> {
+        form.count.get(i)
     }
 
-    fn view_slice_len<S: Store>(view: &View<'_, '_, Empties, S>, k: usize) -> Result<usize, Fault> {
-        view.form.count.slice_len(k)
+    fn form_slice_len(form: &EmptiesForm, k: usize) -> Result<usize, Fault> {
+        form.count.slice_len(k)
     }
 
     // One word, whatever follows the count.
-    fn view_slice_word<S: Store>(
-        view: &View<'_, '_, Empties, S>,
+    fn form_slice_word<S: Store>(
+        form: &EmptiesForm,
+        _store: &S,
         k: usize,
         i: usize,
     ) -> Result<u64, Fault> {
-        view.form.count.slice_word(k, i)
+        form.count.slice_word(k, i)
     }
 }
 
@@ -82,27 +79,6 @@ impl<A: ReadForm, B: ReadForm> ReadForm for Pair<A, B> {
     ghost slices = { λ t ws. pair_slices A.ReadForm.own B.ReadForm.own t ws };
 
     ghost kept = { λ t ws. PairKept A.ReadForm.own B.ReadForm.own A.Kind.format.slots t ws };
-}
-
-// The views of the two sides.
-fn sides<'f, 's, A: FromBytes, B: FromBytes, S: Store>(
-    view: View<'f, 's, Pair<A, B>, S>,
-) -> (View<'f, 's, A, S>, View<'f, 's, B, S>)
-    ensures level { length (⟦<View<'f, 's, A, S> as Index>⟧.list result.0) ≡ length (⟦<View<'f, 's, B, S> as Index>⟧.list result.1) }
-    ensures list { zip (⟦<View<'f, 's, A, S> as Index>⟧.list result.0) (⟦<View<'f, 's, B, S> as Index>⟧.list result.1) ≡ list_of (pair_format A.Kind.format B.Kind.format) (pair_slices A.ReadForm.own B.ReadForm.own view.entry.form.now (S.Store.words view.entry.store.now)) }
-    ensures slices { ⟦<View<'f, 's, A, S> as AsBytes>⟧.slices result.0 ++ ⟦<View<'f, 's, B, S> as AsBytes>⟧.slices result.1 ≡ (pair_format A.Kind.format B.Kind.format).giving (pair_slices A.ReadForm.own B.ReadForm.own view.entry.form.now (S.Store.words view.entry.store.now)) }
-{
-    let first = View {
-        form: &view.form.first,
-        store: view.store,
-        of: PhantomData,
-    };
-    let second = View {
-        form: &view.form.second,
-        store: view.store,
-        of: PhantomData,
-    };
-    (first, second)
 }
 
 impl<A: FromBytes, B: FromBytes> FromBytes for Pair<A, B> {
@@ -127,28 +103,32 @@ impl<A: FromBytes, B: FromBytes> FromBytes for Pair<A, B> {
         A::form_len(&form.first)
     }
 
-    fn view_get<S: Store>(
-        view: &View<'_, '_, Pair<A, B>, S>,
+    fn form_get<S: Store>(
+        form: &PairForm<A::Form, B::Form>,
+        store: &S,
         i: usize,
     ) -> Result<(A::Elem, B::Elem), Fault> {
-        let (first, second) = sides(*view);
-        both(&first, &second, i)
+        let x = A::form_get(&form.first, store, i)?;
+        let y = B::form_get(&form.second, store, i)?;
+        Ok((x, y))
     }
 
-    fn view_slice_len<S: Store>(
-        view: &View<'_, '_, Pair<A, B>, S>,
-        k: usize,
-    ) -> Result<usize, Fault> {
-        let (first, second) = sides(*view);
-        joint_len(&first, &second, k)
+    fn form_slice_len(form: &PairForm<A::Form, B::Form>, k: usize) -> Result<usize, Fault> {
+        match Side::of(k, A::slice_count(), MAX_WORDS)? {
+            Side::First(j) => A::form_slice_len(&form.first, j),
+            Side::Second(j) => B::form_slice_len(&form.second, j),
+        }
     }
 
-    fn view_slice_word<S: Store>(
-        view: &View<'_, '_, Pair<A, B>, S>,
+    fn form_slice_word<S: Store>(
+        form: &PairForm<A::Form, B::Form>,
+        store: &S,
         k: usize,
         i: usize,
     ) -> Result<u64, Fault> {
-        let (first, second) = sides(*view);
-        joint_word(&first, &second, k, i)
+        match Side::of(k, A::slice_count(), MAX_WORDS)? {
+            Side::First(j) => A::form_slice_word(&form.first, store, j, i),
+            Side::Second(j) => B::form_slice_word(&form.second, store, j, i),
+        }
     }
 }

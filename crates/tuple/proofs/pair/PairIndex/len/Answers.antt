@@ -1,6 +1,6 @@
-use Rattle.std.proofs.Common.{arith}
-use Rattle.std.proofs.lemmas.Slice.Zip.{length-zip}
+use Rattle.std.proofs.Common.{◌∙◌}
+use Rattle.tuple.proofs.PairLemmas.{even_length}
 use Rattle.tuple.proofs.pair.PairIndex.len.Goals as goal
 
 pub returns : goal.returns
-returns g c = rw length-zip (omega (arith, c.len.ensures, c.args.self.now.level, g.met.A.Listed.counted c.args.self.now.first, g.met.B.Listed.counted c.args.self.now.second))
+returns g c = rw (← c.self.view_is) (c.len.ensures ∙ even_length _ _ (g.met.A.Listed.counted _) (g.met.B.Listed.counted _) c.self.invariant)
