@@ -1,5 +1,6 @@
 -- The read form of bools over that of the words below: the tail's place, and its bits without the unused ones.
 use Rattle.std.specs.Prelude.{◌≡◌, ℕ, ◌%◌, ◌^◌, List, [], ◌∷◌, ◌++◌, Option}
+use Rattle.std.proofs.Props.{props}
 use Rattle.area.specs.Slice.{Slice}
 use Rattle.column.specs.Kind.{word_of}
 use Rattle.decode.specs.Decode.{Inside, slice_in}
@@ -20,3 +21,6 @@ module _ {F : Type 0} where
     pub inside : Inside ws t.place
     pub count : t.tail.count ≡ word_of (slice_in ws t.place) 1
     pub word : t.tail.word ≡ word_of (slice_in ws t.place) 0 % 2 ^ t.tail.count
+
+  pub BoolsKept-prop : (below : F → List ℕ → Type 0) → ((f : F) (ws : List ℕ) → IsProp (below f ws)) → (t : BoolsForm F) (ws : List ℕ) → IsProp (BoolsKept below t ws)
+  BoolsKept-prop below once t ws = hlevel (props, once)

@@ -7,7 +7,7 @@ ghost use Rattle.area.specs.declared.fault.Refusal.TheVariants.{SliceContent};
 ghost use Rattle.decode.specs.Decode.{Inside, slice_in};
 ghost use Rattle.boolean.specs.Bools.{bools_format, bools_list, range_bits};
 ghost use Rattle.read.specs.Form.{Stands, list_of};
-ghost use Rattle.boolean.specs.Form.{BoolsKept, bools_slices, slice_tail};
+ghost use Rattle.boolean.specs.Form.{BoolsKept, BoolsKept-prop, bools_slices, slice_tail};
 
 use crate::bools::Bools;
 use crate::tail::Tail;
@@ -15,7 +15,7 @@ use area::fault::{Fault, Refusal};
 use column::kind::{Index, Kind, MAX_LEN, Side};
 use decode::decoded::DecodedStore;
 use decode::span::Span;
-use read::form::{FromBytes, ReadForm};
+use read::form::{FromBytes, KeptOnce, ReadForm};
 use read::view::View;
 use std::marker::PhantomData;
 use storage::store::Store;
@@ -119,6 +119,10 @@ impl<C: ReadForm<Elem = u64>> ReadForm for Bools<C> {
     ghost slices = { λ t ws. bools_slices C.ReadForm.slices t ws };
 
     ghost kept = { λ t ws. BoolsKept C.ReadForm.kept t ws };
+}
+
+impl<C: KeptOnce<Elem = u64>> KeptOnce for Bools<C> {
+    ghost kept_prop = { λ t ws. BoolsKept-prop C.ReadForm.kept C.KeptOnce.kept_prop t ws };
 }
 
 impl<C: FromBytes<Elem = u64>> FromBytes for Bools<C> {

@@ -13,7 +13,7 @@ use column::kind::{Kind, MAX_LEN};
 use column::run::Run;
 use decode::decoded::DecodedStore;
 use decode::span::Span;
-use read::form::{FromBytes, ReadForm};
+use read::form::{FromBytes, KeptOnce, ReadForm};
 use read::view::View;
 use std::marker::PhantomData;
 use storage::store::Store;
@@ -31,6 +31,12 @@ impl<'a> ReadForm for Strides<'a> {
     ghost slices = { λ t ws. strides_slices t ws };
 
     ghost kept = { λ t ws. StridesKept t ws };
+}
+
+impl<'a> KeptOnce for Strides<'a> {
+    ghost use Rattle.std.proofs.Props.{props};
+
+    ghost kept_prop = { λ t ws. Prim.hlevel props };
 }
 
 // The bounds, as a view of a run.

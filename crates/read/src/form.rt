@@ -22,6 +22,12 @@ pub trait ReadForm: Kind {
     ghost kept: { Self.Form → List ℕ → Type 0 };
 }
 
+// A read form of which what it keeps to has one proof at most: of a view or an admitted image it is then had as it is, and not
+// only where a goal is such a fact too.
+pub trait KeptOnce: ReadForm {
+    ghost kept_prop: { (t : Self.Form) (ws : List ℕ) → IsProp (Self.ReadForm.kept t ws) };
+}
+
 // A kind with its read form. `There` stays a premise: a type for slices that are there, which every part that a kind asks would
 // have to be wrapped in, is no plainer.
 pub trait FromBytes: ReadForm {

@@ -4,7 +4,7 @@ ghost use Rattle.std.proofs.Props.{props};
 ghost use Rattle.decode.specs.Decode.{Inside, slice_in};
 
 use crate::element::Stored;
-use crate::form::{FromBytes, ReadForm};
+use crate::form::{FromBytes, KeptOnce, ReadForm};
 use crate::view::View;
 use area::fault::{Fault, Refusal};
 use column::element::Element;
@@ -27,6 +27,10 @@ impl<'a, T: Stored> ReadForm for Run<'a, T> {
     ghost slices = { λ s ws. slice_in ws s ∷ [] };
 
     ghost kept = { λ s ws. Inside ws s };
+}
+
+impl<'a, T: Stored> KeptOnce for Run<'a, T> {
+    ghost kept_prop = { λ s ws. Prim.hlevel props };
 }
 
 impl<'a, T: Stored> FromBytes for Run<'a, T> {

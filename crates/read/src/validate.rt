@@ -1,10 +1,10 @@
 // Admission of any store for any kind.
-ghost use Rattle.std.specs.Prelude.{◌≡◌, Some, None};
+ghost use Rattle.std.specs.Prelude.{◌≡◌, Some, None, IfOk};
 ghost use Rattle.decode.specs.Decode.{slices_of, structure_fault};
 ghost use Rattle.read.specs.Admission.{Admits};
 ghost use Rattle.read.specs.Form.{Passed, Passed-prop, Stands, list_of};
 
-use crate::form::{FromBytes, ReadForm};
+use crate::form::{FromBytes, KeptOnce, ReadForm};
 use crate::view::View;
 use area::fault::Fault;
 use column::kind::Kind;
@@ -37,9 +37,17 @@ impl<K: ReadForm, S: Store> Admitted<K, S> {
     }
 }
 
+impl<K: KeptOnce, S: Store> Admitted<K, S> {
+    // Does nothing: its clause is that the form stands, as `standing` of a view.
+    pub fn standing(&self)
+        ensures { Stands K.ReadForm.slices K.ReadForm.kept K.Kind.format self.now.form (S.Store.words self.now.store) }
+    {}
+}
+
 // Asks a store questions 1 to 9, and answers the first that it fails.
 pub fn validate<K: FromBytes, S: Store + Drop>(store: S) -> Result<Admitted<K, S>, Fault>
-    ensures { Admits K.Kind.format S.Store.words (λ a. a.store) (λ a. list_of K.Kind.format (K.ReadForm.slices a.form (S.Store.words a.store))) store result }
+    ensures admits { Admits K.Kind.format S.Store.words (λ a. a.store) (λ a. list_of K.Kind.format (K.ReadForm.slices a.form (S.Store.words a.store))) store result }
+    ensures stands { IfOk result (λ a. Stands K.ReadForm.slices K.ReadForm.kept K.Kind.format a.form (S.Store.words a.store)) }
 {
     let image = DecodedStore::with_slices(&store, K::slice_count())?;
     K::sized(&image, 0)?;

@@ -3,7 +3,7 @@ ghost use Rattle.std.specs.Prelude.{◌≡◌, length, refl, ⊤};
 ghost use Rattle.read.specs.Form.{Passed, Passed-prop, Stands, list_of};
 ghost use Rattle.read.specs.FormLaws.{given_formed};
 
-use crate::form::{FromBytes, ReadForm};
+use crate::form::{FromBytes, KeptOnce, ReadForm};
 use area::fault::Fault;
 use column::kind::{AsBytes, Index, Kind, Listed};
 use std::alloc::AllocError;
@@ -30,6 +30,13 @@ impl<'f, 's, K: ReadForm, S: Store> Clone for View<'f, 's, K, S> {
     fn clone(&self) -> Result<Self, AllocError> {
         Ok(*self)
     }
+}
+
+impl<'f, 's, K: KeptOnce, S: Store> View<'f, 's, K, S> {
+    // Does nothing: its clause is that the form stands, which a caller would else take out of the view's type by a proof.
+    pub fn standing(&self)
+        ensures { Stands K.ReadForm.slices K.ReadForm.kept K.Kind.format self.now.form.now (S.Store.words self.now.store.now) }
+    {}
 }
 
 impl<'f, 's, K: FromBytes, S: Store> Index for View<'f, 's, K, S> {

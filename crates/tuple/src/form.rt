@@ -9,7 +9,7 @@ use area::fault::{Fault, Refusal};
 use column::kind::{AsBytes, Index, Kind, MAX_WORDS, Side};
 use decode::decoded::DecodedStore;
 use decode::span::Span;
-use read::form::{FromBytes, ReadForm};
+use read::form::{FromBytes, KeptOnce, ReadForm};
 use storage::store::Store;
 
 // The place of the count, and the count.
@@ -25,6 +25,12 @@ impl ReadForm for Empties {
     ghost slices = { λ t ws. slice_in ws t.place ∷ [] };
 
     ghost kept = { λ t ws. EmptiesKept t ws };
+}
+
+impl KeptOnce for Empties {
+    ghost use Rattle.std.proofs.Props.{props};
+
+    ghost kept_prop = { λ t ws. Prim.hlevel props };
 }
 
 impl FromBytes for Empties {
@@ -79,6 +85,12 @@ impl<A: ReadForm, B: ReadForm> ReadForm for Pair<A, B> {
     ghost slices = { λ t ws. pair_slices A.ReadForm.own B.ReadForm.own t ws };
 
     ghost kept = { λ t ws. PairKept A.ReadForm.own B.ReadForm.own A.Kind.format.slots t ws };
+}
+
+impl<A: KeptOnce, B: KeptOnce> KeptOnce for Pair<A, B> {
+    ghost use Rattle.std.proofs.Props.{props};
+
+    ghost kept_prop = { λ t ws. Prim.hlevel (props, A.KeptOnce.kept_prop, B.KeptOnce.kept_prop) };
 }
 
 impl<A: FromBytes, B: FromBytes> FromBytes for Pair<A, B> {

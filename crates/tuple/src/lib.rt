@@ -4,3 +4,5 @@
 pub mod empties;
 pub mod form;
 pub mod pair;
+#[cfg(test)]
+mod tests;

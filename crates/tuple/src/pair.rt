@@ -43,6 +43,18 @@ impl<A: Column, B: Column> Pair<A, B> {
     }
 }
 
+impl<A: Listed, B: Listed> Pair<A, B> {
+    // Does nothing: its clauses say of a pair that both sides hold as many, and that its list is theirs, side by side.
+    pub fn level(&self)
+        ensures even { A.Kind.elements self.now.first ≡ B.Kind.elements self.now.second }
+        ensures level { length (A.Index.list self.now.first) ≡ length (B.Index.list self.now.second) }
+        ensures list { ⟦<Pair<A, B> as Index>⟧.list self.now ≡ zip (A.Index.list self.now.first) (B.Index.list self.now.second) }
+    {
+        // what is known of a pair is known once a field of it is reached
+        let _ = &self.first;
+    }
+}
+
 // The elements at place `i` of two lists that are as long as one another.
 pub(crate) fn both<A: Index, B: Index>(
     first: &A,

@@ -4,8 +4,8 @@ use Rattle.read.proofs.AdmissionLemmas.{admitted_list, all_asked, form_admitted,
 use Rattle.read.proofs.FormLemmas.{size-passed}
 use Rattle.read.proofs.validate.validate.Goals as goal
 
-pub returns-in_err-sized : goal.returns-in_err-sized
-returns-in_err-sized g c =
+pub returns-in_err-sized-clause-admits : goal.returns-in_err-sized-clause-admits
+returns-in_err-sized-clause-admits g c =
     let F = g.K.Kind.format in
     let ws = g.S.Store.words c.args.store in
     let h = c.in_ok-image.ensures in
@@ -15,8 +15,8 @@ returns-in_err-sized g c =
     let e = rw q at c.in_err-sized.ensures in
     rw (p.1, p.2) (size-admitted F ws c.slice_count.result c.slice_count.ensures h.0 _ (e t))
 
-pub returns-in_err-form : goal.returns-in_err-form
-returns-in_err-form g c =
+pub returns-in_err-form-clause-admits : goal.returns-in_err-form-clause-admits
+returns-in_err-form-clause-admits g c =
     let F = g.K.Kind.format in
     let ws = g.S.Store.words c.args.store in
     let h = c.in_ok-image.ensures in
@@ -39,8 +39,8 @@ invariant_of-result g c =
     let f = form_admitted F ws c.slice_count.result c.slice_count.ensures h.0 g.K.ReadForm.slices g.K.ReadForm.kept z c.in_ok-form.form (g.met.S.Store.whole c.args.store) (e t z) in
     record { passed = f.0.passed; stands = ∣ f.0 ∣₁; whole = f.1; asked = all_asked F ws c.slice_count.result c.slice_count.ensures h.0 }
 
-pub returns : goal.returns
-returns g c =
+pub returns-clause-admits : goal.returns-clause-admits
+returns-clause-admits g c =
     let F = g.K.Kind.format in
     let ws = g.S.Store.words c.args.store in
     let h = c.in_ok-image.ensures in
@@ -50,3 +50,14 @@ returns g c =
     let e = rw q at c.in_ok-form.ensures in
     let f = form_admitted F ws c.slice_count.result c.slice_count.ensures h.0 g.K.ReadForm.slices g.K.ReadForm.kept z c.in_ok-form.form (g.met.S.Store.whole c.args.store) (e t z) in
     (refl, admitted_list ws f.0.passed f.1 (all_asked F ws c.slice_count.result c.slice_count.ensures h.0))
+
+pub returns-clause-stands : goal.returns-clause-stands
+returns-clause-stands g c =
+    let F = g.K.Kind.format in
+    let ws = g.S.Store.words c.args.store in
+    let h = c.in_ok-image.ensures in
+    let q = ap (λ s. s.now) h.1 in
+    let t = there_all F ws c.slice_count.result c.slice_count.ensures h.0 in
+    let z = size-passed 0 _ c.in_ok-sized.field-0 ((rw q at c.in_ok-sized.ensures) t) in
+    let e = rw q at c.in_ok-form.ensures in
+    (form_admitted F ws c.slice_count.result c.slice_count.ensures h.0 g.K.ReadForm.slices g.K.ReadForm.kept z c.in_ok-form.form (g.met.S.Store.whole c.args.store) (e t z)).0
