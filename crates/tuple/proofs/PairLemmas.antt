@@ -2,11 +2,11 @@
 use Rattle.std.proofs.Common.{◌≡◌, ℕ, zero, suc, Bool, true, false, ◌&&◌, List, [], ◌∷◌, ◌++◌, length, zip, Ok, Err, Result, sym, refl, ap, ◌∙◌, ap₂, arith}
 use Rattle.std.proofs.lemmas.List.{length_push}
 use Rattle.std.proofs.lemmas.Slice.Zip.{length-zip}
-use Rattle.std.proofs.lemmas.Bool.{and_parts}
+use Rattle.std.proofs.lemmas.Bool.{and_parts, eq-eqb}
 use Rattle.area.specs.declared.fault.Fault.{Fault}
 use Rattle.column.specs.Column.{Areas, beside, element, push_answer, pushed}
 use Rattle.tuple.specs.Pair.{even_list, pair_takes}
-use Rattle.tuple.specs.PairLaws.{even_zip, parts_zip, same_length, still_level}
+use Rattle.tuple.specs.PairLaws.{parts_zip, same_length, still_level}
 
 -- a push that is taken is not refused
 pub not_refused : (b : Bool) (r : Result (Unit {0}) Fault) (e : Fault) → b ≡ true → r ≡ push_answer b → r ≡ Err e → ⊥
@@ -50,12 +50,15 @@ module _ {A B : Type 0} where
 
 -- a pair, whose sides hold as many
 module _ {A B : Type 0} (ls : List A) (rs : List B) {m n : ℕ} (p : m ≡ length ls) (q : n ≡ length rs) (e : m ≡ n) where
+  pub even_zip : even_list m n ls rs ≡ zip ls rs
+  even_zip = rw (eq-eqb m n e)
+
   pub even_length : length ls ≡ length (even_list m n ls rs)
-  even_length = rw (even_zip e ls rs, length-zip) (omega (arith, p, q, e))
+  even_length = rw (even_zip, length-zip) (omega (arith, p, q, e))
 
   module _ (f : Areas → List A → A → Bool) (g : Areas → List B → B → Bool) (a b : Areas) (x : A × B) where
     pub even_takes : pair_takes f g (beside a b) (even_list m n ls rs) x ≡ f a ls x.0 && g b rs x.1
-    even_takes = rw (even_zip e ls rs) (takes_both f g a b ls rs x (same_length ls rs p q e))
+    even_takes = rw even_zip (takes_both f g a b ls rs x (same_length ls rs p q e))
 
     module _ (k : true ≡ pair_takes f g (beside a b) (even_list m n ls rs) x) where
       pub even_taken : (f a ls x.0 ≡ true) × (g b rs x.1 ≡ true)
@@ -67,4 +70,4 @@ module _ {A B : Type 0} (ls : List A) (rs : List B) {m n : ℕ} (p : m ≡ lengt
           let l = same_length ls rs p q e in
           let w = both_pushed f g a b ls rs x l (k ∙ even_takes ∙ sym (takes_both f g a b ls rs x l)) us vs u v in
           let h = still_level us vs s t w.0 in
-          (h, rw (even_zip h us vs, even_zip e ls rs) w.1)
+          (h, rw (eq-eqb i j h, even_zip) w.1)

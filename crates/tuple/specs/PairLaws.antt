@@ -124,14 +124,6 @@ still_level ls rs p q e = p ∙ e ∙ sym q
 pub pair_counted : {A B : Type 0} (ls : List A) (rs : List B) {m n : ℕ} → m ≡ length ls → n ≡ length rs → m ≡ n → m ≡ length (zip ls rs)
 pair_counted ls rs p q e = rw length-zip (omega (arith, p, q, e))
 
--- sides that hold as many: all of them is seen
-module _ {A B : Type 0} {m n : ℕ} (e : m ≡ n) where
-  pub even_zip : (ls : List A) (rs : List B) → even_list m n ls rs ≡ zip ls rs
-  even_zip ls rs = rw (eq-eqb m n e)
-
-  pub even_join : (F : Format A) (G : Format B) (us vs : List Slice) → even_slices F G m n us vs ≡ us ++ vs
-  even_join F G us vs = rw (eq-eqb m n e)
-
 -- two columns of one length, side by side
 module _ {A B : Type 0} (ls : List A) (rs : List B) (level : length ls ≡ length rs) where
   pub pair_held : (f : A → Bool) (g : B → Bool) → Held f ls → Held g rs → Held (λ p. f p.0 && g p.1) (zip ls rs)

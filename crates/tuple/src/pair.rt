@@ -43,6 +43,21 @@ impl<A: Column, B: Column> Pair<A, B> {
     }
 }
 
+impl<A: Kind, B: Kind> Pair<A, B> {
+    // A side, to be asked what no clause of the pair says of it, as `level` of a pair inside a pair.
+    pub fn first(&self) -> &A
+        ensures { result.now ≡ self.now.first }
+    {
+        &self.first
+    }
+
+    pub fn second(&self) -> &B
+        ensures { result.now ≡ self.now.second }
+    {
+        &self.second
+    }
+}
+
 impl<A: Listed, B: Listed> Pair<A, B> {
     // Does nothing: its clauses say of a pair that both sides hold as many, and that its list is theirs, side by side.
     pub fn level(&self)

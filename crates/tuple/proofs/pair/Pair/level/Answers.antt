@@ -1,11 +1,10 @@
-use Rattle.tuple.specs.PairLaws.{even_zip, same_length}
+use Rattle.tuple.specs.PairLaws.{same_length}
+use Rattle.tuple.proofs.PairLemmas.{even_zip}
 use Rattle.tuple.proofs.pair.Pair.level.Goals as goal
 
 pub returns : goal.returns
 returns g c =
-    rw (← c.self.view_is)
-    (record {
-      even = c.self.invariant;
-      level = same_length _ _ (g.met.A.Listed.counted c.self.inside.first) (g.met.B.Listed.counted c.self.inside.second) c.self.invariant;
-      list = even_zip c.self.invariant _ _;
-    })
+    let p = g.met.A.Listed.counted c.self.inside.first in
+    let q = g.met.B.Listed.counted c.self.inside.second in
+    let e = c.self.invariant in
+    rw (← c.self.view_is) (record { even = e; level = same_length _ _ p q e; list = even_zip _ _ p q e })
