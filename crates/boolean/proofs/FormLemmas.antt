@@ -13,7 +13,7 @@ use Rattle.area.specs.Fault.{refuse}
 use Rattle.area.specs.Slice.{Slice, of_words, words_for}
 use Rattle.area.specs.declared.fault.Fault.{Fault}
 use Rattle.area.specs.declared.fault.Refusal.TheVariants.{OutOfRange, SliceContent}
-use Rattle.column.specs.Kind.{CAP, Format, L, Laws, first_refused, reading_within, least_words, slot, word_of}
+use Rattle.column.specs.Kind.{CAP, Format, L, first_refused, reading_within, least_words, slot, word_of}
 use Rattle.column.specs.Column.{element, side_of, slice_length, word_in_slice}
 use Rattle.column.specs.declared.kind.Side.TheVariants.{First, Second}
 use Rattle.column.specs.KindLemmas.{least_words_lem}
@@ -100,10 +100,6 @@ module _ {F : Type 0} (slices : F → List ℕ → List Slice) (kept : F → Lis
 
   pub length_list : (b : Below) → length (list_of (bools_format W) (bools_slices slices t ws)) ≡ 64 * length (list_of W (slices t.values ws)) + t.tail.count
   length_list b = sym (ap length b.list) ∙ length-held (list_of W (slices t.values ws)) t.tail.count t.tail.word
-
--- a kind gives as many slices as it has, of a form that stands
-pub counted_below : {E X : Type 0} {fits : E → Bool} {F : Format E} {slices : X → List ℕ → List Slice} {kept : X → List ℕ → Type 0} {t : X} {ws : List ℕ} → Laws fits F → Stands slices kept F t ws → (n : ℕ) → n ≡ min F.slots CAP → n ≡ min (length (F.giving (slices t ws))) CAP
-counted_below {F} {slices} {t} {ws} laws s n h = h ∙ ap (λ m. min m CAP) (sym (laws.given (slices t ws) _ (accepted s)).0.count)
 
 -- the tail's slice as it is given, whole
 module _ (ws : List ℕ) (s : Span) (i : Inside ws s) where

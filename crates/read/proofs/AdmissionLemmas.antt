@@ -12,6 +12,7 @@ use Rattle.decode.specs.Decode.{ask, ends_fault, first, index_answer, index_faul
 use Rattle.decode.proofs.DecodeLemmas.{asked-passed, asked_uncounted, count_slices, index_counted, index_refused}
 use Rattle.read.specs.Admission.{admission, content_answer, read_answer}
 use Rattle.read.specs.Form.{FormAnswer, Passed, Stands, There, list_of, size_answer, slices_within}
+use Rattle.read.proofs.FormLemmas.{size-passed}
 use Rattle.read.proofs.PlaceLemmas.{made}
 use Rattle.read.specs.FormLaws.{passed-accepted}
 
@@ -73,6 +74,12 @@ module _ {E : Type 0} (F : Format E) (ws : List ℕ) (n : ℕ) (p : n ≡ min F.
 
     pub form_admitted : (t : Form) → AllByRecursion (λ w. w < 2 ^ 64) ws → FormAnswer slices kept ws (slices_within ws 0 F.slots) 0 (F.reading (slices_within ws 0 F.slots)) (Ok t) → Stands slices kept F t ws × (slices t ws ≡ slices_of ws)
     form_admitted t whole a = let m = made ws uncounted whole slices kept F 0 there_all z t a in (m.stands, m.of ∙ slices_all)
+
+  -- the same of what the parts of an admission answered of the store's words, as vs
+  pub form_given : {Form : Type 0} (slices : Form → List ℕ → List Slice) (kept : Form → List ℕ → Type 0) (vs : List ℕ) → vs ≡ ws → AllByRecursion (λ w. w < 2 ^ 64) ws → (u : Unit {0}) → (There vs 0 F.slots → Ok u ≡ size_answer 0 (F.sized (slices_within vs 0 F.slots))) → (t : Form) → (There vs 0 F.slots → F.sized (slices_within vs 0 F.slots) ≡ None → FormAnswer slices kept vs (slices_within vs 0 F.slots) 0 (F.reading (slices_within vs 0 F.slots)) (Ok t)) → Stands slices kept F t ws × (slices t ws ≡ slices_of ws)
+  form_given slices kept vs q whole u s t f =
+      let z = size-passed 0 _ u ((rw q at s) there_all) in
+      form_admitted slices kept z t whole ((rw q at f) there_all z)
 
 -- what the type of an admitted image says: its words are admitted with the list of its form
 pub admitted_list : {E : Type 0} {F : Format E} {ss : List Slice} (ws : List ℕ) → Passed F ss → ss ≡ slices_of ws → structure_fault (Some F.slots) ws ≡ None → admission F ws ≡ Ok (list_of F ss)

@@ -1,14 +1,15 @@
 -- Parts of decoded slices, what accepted slices read as, and what the answers on slices and on forms say.
-use Rattle.std.proofs.Common.{◌≡◌, ℕ, ◌+◌, ◌^◌, ◌<◌, ◌≤◌, List, [], ◌∷◌, length, get_or, take, drop, Some, None, Ok, Option, sym, refl, ap, ◌∙◌, subst, arith, length-drop, length-take, get_or-drop, get_or-take}
+use Rattle.std.proofs.Common.{◌≡◌, ℕ, ◌+◌, ◌^◌, ◌<◌, ◌≤◌, min, Bool, List, [], ◌∷◌, length, get_or, take, drop, Some, None, Ok, Option, sym, refl, ap, ◌∙◌, subst, arith, length-drop, length-take, get_or-drop, get_or-take}
 use Rattle.std.specs.List.{AllByRecursion}
 use Rattle.std.proofs.ByRecursion.{All-drop, All-from_get_or, All-take}
 use Rattle.std.proofs.lemmas.Bool.{lt-ltb}
 use Rattle.area.specs.Slice.{Slice, WellFormed, words_for}
-use Rattle.column.specs.Kind.{Accepted, CAP, Format, Reading, reads, refuses, slot}
+use Rattle.column.specs.Kind.{Accepted, CAP, Format, Laws, Reading, reads, refuses, slot}
 use Rattle.decode.specs.Decode.{Inside, slice_in, slices_of, span_answer, span_of, structure_fault}
 use Rattle.decode.specs.declared.span.Span.{Span}
 use Rattle.decode.proofs.DecodeLemmas.{asked-passed, length_span, slices_under, span_inside, span_slice}
-use Rattle.read.specs.Form.{There, FormAnswer, list_of, size_answer, slices_within}
+use Rattle.read.specs.Form.{Stands, There, FormAnswer, list_of, size_answer, slices_within}
+use Rattle.read.specs.FormLaws.{accepted}
 
 -- what accepted slices read as
 abbrev pub list_in : {E : Type 0} → Reading E → List E
@@ -36,6 +37,10 @@ slot_within ws a n j h = get_or_part (slices_of ws) a n j (record { words = []; 
 pub first_slot : (ss : List Slice) → 0 < length ss → slot ss 0 ∷ drop 1 ss ≡ ss
 first_slot [] h = absurd (omega arith)
 first_slot (s ∷ ss) h = refl
+
+-- a kind gives as many slices as it has, of a form that stands
+pub counted_given : {E X : Type 0} {fits : E → Bool} {F : Format E} {slices : X → List ℕ → List Slice} {kept : X → List ℕ → Type 0} {t : X} {ws : List ℕ} → Laws fits F → Stands slices kept F t ws → (n : ℕ) → n ≡ min F.slots CAP → n ≡ min (length (F.giving (slices t ws))) CAP
+counted_given {F} {slices} {t} {ws} laws s n h = h ∙ ap (λ m. min m CAP) (sym (laws.given (slices t ws) _ (accepted s)).0.count)
 
 -- slices of words below 2^64 that passed their questions
 pub slices_formed : (ws : List ℕ) → structure_fault None ws ≡ None → AllByRecursion (λ w. w < 2 ^ 64) ws → AllByRecursion WellFormed (slices_of ws)

@@ -22,8 +22,8 @@ pub trait ReadForm: Kind {
     ghost kept: { Self.Form → List ℕ → Type 0 };
 }
 
-// A read form of which what it keeps to has one proof at most: of a view or an admitted image it is then had as it is, and not
-// only where a goal is such a fact too.
+// A read form that keeps to what has one proof at most. What a view or an admitted image keeps truncated of it is then had as it
+// is, for any goal.
 pub trait KeptOnce: ReadForm {
     ghost kept_prop: { (t : Self.Form) (ws : List ℕ) → IsProp (Self.ReadForm.kept t ws) };
 }
@@ -58,8 +58,8 @@ pub trait FromBytes: ReadForm {
     ) -> Result<u64, Fault>
         ensures { Stands Self.ReadForm.slices Self.ReadForm.kept Self.Kind.format form.now (S.Store.words store.now) → result ≡ word_in_slice (Self.Kind.format.giving (Self.ReadForm.slices form.now (S.Store.words store.now))) k i };
 
-    // The element at place `i`; 10 at or past the length. This and the next two are answered by the form, where a kind has no
-    // code of its column's for it.
+    // The element at place `i`; 10 at or past the length. What is asked of a view, here and below, its form answers, where a kind
+    // has no code of its column's for it.
     fn view_get<S: Store>(view: &View<'_, '_, Self, S>, i: usize) -> Result<Self::Elem, Fault>
         ensures { result ≡ element (list_of Self.Kind.format (Self.ReadForm.slices view.now.form.now (S.Store.words view.now.store.now))) i }
     {

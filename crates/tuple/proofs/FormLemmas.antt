@@ -1,5 +1,5 @@
 -- The two sides of a form of pairs.
-use Rattle.std.proofs.Common.{◌≡◌, ℕ, ◌+◌, ◌^◌, ◌<◌, min, Bool, true, eqb, is_ok, List, [], ◌∷◌, ◌++◌, length, take, drop, zip, None, Ok, Err, Result, sym, refl, ap, ◌∙◌, subst, ap₂, take-append-drop, take_at, drop_at, arith}
+use Rattle.std.proofs.Common.{◌≡◌, ℕ, ◌+◌, ◌^◌, ◌<◌, Bool, true, eqb, is_ok, List, [], ◌∷◌, ◌++◌, length, take, drop, zip, None, Ok, Err, Result, sym, refl, ap, ◌∙◌, subst, ap₂, take-append-drop, take_at, drop_at, arith}
 use lib.ListN.{length-map}
 use Rattle.std.specs.List.{AllByRecursion}
 use Rattle.std.specs.Result.{MatchResult, OkIff}
@@ -8,7 +8,7 @@ use Rattle.area.specs.Fault.{refuse}
 use Rattle.area.specs.Slice.{Slice}
 use Rattle.area.specs.declared.fault.Fault.{Fault}
 use Rattle.area.specs.declared.fault.Refusal.TheVariants.{SliceContent}
-use Rattle.column.specs.Kind.{CAP, Format, Laws, Reading, after, reading_within, reads, refuses}
+use Rattle.column.specs.Kind.{Format, Reading, after, reading_within, reads, refuses}
 use Rattle.column.specs.KindLemmas.{neither}
 use Rattle.decode.specs.Decode.{structure_fault}
 use Rattle.read.specs.declared.form.ReadForm.{Ghosts as FormMembers}
@@ -49,10 +49,6 @@ module _ {A B : Type 0} (F : Format A) (G : Format B) (ls rs : List Slice) (coun
   pub list_sides : length (list_of F ls) ≡ length (list_of G rs) → zip (list_of F ls) (list_of G rs) ≡ list_of (pair_format F G) (ls ++ rs)
   list_sides level =
       zip-together (F.reading ls) (G.reading rs) level ∙ sym (ap₂ (λ us vs. together (F.reading us) (G.reading vs)) (take_at ls rs F.slots count) (drop_at ls rs F.slots count))
-
--- a kind gives as many slices as it has, of a form that stands
-pub counted_left : {E X : Type 0} {fits : E → Bool} {F : Format E} {slices : X → List ℕ → List Slice} {kept : X → List ℕ → Type 0} {t : X} {ws : List ℕ} → Laws fits F → Stands slices kept F t ws → (n : ℕ) → n ≡ min F.slots CAP → n ≡ min (length (F.giving (slices t ws))) CAP
-counted_left {F} {slices} {t} {ws} laws s n h = h ∙ ap (λ m. min m CAP) (sym (laws.given (slices t ws) _ (accepted s)).0.count)
 
 -- the two sides of a form of pairs
 module _ {K J X Y A B : Type 0} (l : FormMembers K X A) (r : FormMembers J Y B) (F : Format A) (G : Format B) (t : PairForm X Y) (ws : List ℕ) where
